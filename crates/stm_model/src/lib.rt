@@ -1,2 +1,16 @@
-//! To be written.
+//! The types that every crate of the transactional memory speaks of, and its list types.
 #![tactic(auto)]
+
+mod cause;
+mod meta;
+mod pairs;
+mod series;
+mod settings;
+mod values;
+
+pub use cause::{Addr, Cause, HookPhase};
+pub use meta::{Meta, Phase, TxnStatus};
+pub use pairs::Pairs;
+pub use series::{Memory, Series};
+pub use settings::{Policy, Settings};
+pub use values::{Runs, Values, Words};
