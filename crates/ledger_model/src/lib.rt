@@ -1,2 +1,14 @@
-//! To be written.
+//! Jobs of transaction scripts, what running them means, and the listing of what came of them.
 #![tactic(auto)]
+
+mod job;
+mod listing;
+mod reason;
+mod rows;
+mod script;
+
+pub use job::{Contents, Job, Openings, PairLists, Scripts, Steps, Workers};
+pub use listing::{Listing, Names, Rolled, RolledList, Row, RowResult};
+pub use reason::Reason;
+pub use rows::Rows;
+pub use script::{Block, Operand, Parts, Script, Statement};

@@ -1,0 +1,100 @@
+-- Which jobs are within the limits.
+use Rattle.std.specs.Prelude.{ℕ, zero, suc, ◌+◌, ◌^◌, ◌<◌, ◌≤◌, Bool, true, false, ◌&&◌, nat_lt, nat_le, IsTrue, List, [], ◌∷◌, length, map}
+use Rattle.std.specs.List.{AllByRecursion}
+use Rattle.ledger_model.specs.declared.job.Job.{Job}
+use Rattle.ledger_model.specs.declared.script.Script.{Script}
+use Rattle.ledger_model.specs.declared.script.Operand.{Operand}
+use Rattle.ledger_model.specs.declared.script.Operand.TheVariants.{Reg, Number}
+use Rattle.ledger_model.specs.declared.script.Statement.{Statement}
+use Rattle.ledger_model.specs.declared.script.Statement.TheOpen.{Statement-F, Const, Read, Write, Add, Sub, Print, Check, Need, Move, Inner, Either, Late, Hook, Put, Del, Look, LookSlot, Snap, Share}
+use Rattle.ledger_model.specs.declared.script.Statement.TheFolds.{fold-Statement}
+
+abbrev pub is_register : ℕ → Bool
+is_register r = nat_lt r 16
+
+abbrev pub is_number : ℕ → Bool
+is_number n = nat_lt n (2 ^ 64)
+
+abbrev pub is_code : ℕ → Bool
+is_code code = nat_lt 0 code && nat_lt code (2 ^ 16)
+
+abbrev pub operand_fits : Operand → Bool
+operand_fits (Reg r) = is_register r
+operand_fits (Number n) = is_number n
+
+-- what there is, for scripts to name
+pub record Places : Type 0 where
+  pub refs : ℕ
+  pub maps : ℕ
+  pub snaps : ℕ
+
+-- whether each is true, with so many levels left
+abbrev pub each_fits : ℕ → List (ℕ → Bool) → Bool
+each_fits left [] = true
+each_fits left (fits ∷ more) = fits left && each_fits left more
+
+abbrev pub each_part_fits : ℕ → List (List (ℕ → Bool)) → Bool
+each_part_fits left [] = true
+each_part_fits left (part ∷ parts) = each_fits left part && each_part_fits left parts
+
+-- one level deeper, where one is left
+abbrev pub nests : ℕ → (ℕ → Bool) → Bool
+nests zero inside = false
+nests (suc left) inside = inside left
+
+-- Registers and numbers are in range, what is named is there, and blocks nest at most so deep.
+abbrev pub fits_step : Places → Statement-F (ℕ → Bool) → ℕ → Bool
+fits_step p (Const r n) left = is_register r && is_number n
+fits_step p (Read r cell) left = is_register r && nat_lt cell p.refs
+fits_step p (Write cell x) left = nat_lt cell p.refs && operand_fits x
+fits_step p (Add r x) left = is_register r && operand_fits x
+fits_step p (Sub r x) left = is_register r && operand_fits x
+fits_step p (Print x) left = operand_fits x
+fits_step p (Check x y code) left = operand_fits x && operand_fits y && is_code code
+fits_step p (Need x y) left = operand_fits x && operand_fits y
+fits_step p (Move from into x) left = nat_lt from p.refs && nat_lt into p.refs && operand_fits x
+fits_step p (Inner r block) left = is_register r && nests left (λ inside. each_fits inside block)
+fits_step p (Either parts) left = nat_le 2 (length parts) && nests left (λ inside. each_part_fits inside parts)
+fits_step p (Late block) left = nests left (λ inside. each_fits inside block)
+fits_step p (Hook phase token) left = is_number token
+fits_step p (Put m x y) left = nat_lt m p.maps && operand_fits x && operand_fits y
+fits_step p (Del m x) left = nat_lt m p.maps && operand_fits x
+fits_step p (Look r m x y) left = is_register r && nat_lt m p.maps && operand_fits x && operand_fits y
+fits_step p (LookSlot r k x y) left = is_register r && nat_lt k p.snaps && operand_fits x && operand_fits y
+fits_step p (Snap k m) left = nat_lt k p.snaps && nat_lt m p.maps
+fits_step p (Share from into) left = nat_lt from p.maps && nat_lt into p.maps
+
+abbrev pub fits : Places → Statement → ℕ → Bool
+fits p = fold-Statement (ℕ → Bool) (fits_step p)
+
+-- the statements of a block, with so many levels left
+abbrev pub block_fits : Places → ℕ → List Statement → Bool
+block_fits p left block = each_fits left (map (fits p) block)
+
+-- blocks nest at most 32 deep
+abbrev pub ScriptFits : Places → Script → Type 0
+ScriptFits p script = IsTrue (block_fits p 32 script.block)
+
+-- references in ascending order, from `next` on, each with a value other than 0
+abbrev pub OpeningsFit : ℕ → ℕ → List (ℕ × ℕ) → Type 0
+OpeningsFit refs next [] = Unit {0}
+OpeningsFit refs next (opening ∷ openings) =
+    (next ≤ opening.0) × (opening.0 < refs) × (0 < opening.1) × (opening.1 < 2 ^ 64) × OpeningsFit refs (opening.0 + 1) openings
+
+abbrev pub WorkerFits : Places → List Script → Type 0
+WorkerFits p scripts = (length scripts ≤ 4096) × AllByRecursion (ScriptFits p) scripts
+
+abbrev pub places : Job → Places
+places job = record { refs = job.refs; maps = job.maps; snaps = job.snaps }
+
+-- the job is within the limits
+pub record JobFits (job : Job) : Type 0 where
+  pub refs : job.refs ≤ 65536
+  pub maps : job.maps ≤ 64
+  pub snaps : job.snaps ≤ 64
+  pub blocks : job.blocks ≤ 65536
+  pub openings : OpeningsFit job.refs 0 job.openings
+  pub workers : length job.workers ≤ 16
+  pub scripts : AllByRecursion (WorkerFits (places job)) job.workers
+  pub steps : length job.steps ≤ 262144
+  pub named : AllByRecursion (λ worker. (1 ≤ worker) × (worker ≤ length job.workers)) job.steps
