@@ -6,3 +6,4 @@ pub mod Replays
 pub mod Report
 pub mod Run
 pub mod Settle
+pub mod Straight

@@ -1,0 +1,33 @@
+-- Which text is which job, in the form that is built: references, and scripts that go straight on.
+use Rattle.std.specs.Prelude.{◌≡◌, ℕ, ◌+◌, ◌^◌, ◌<◌, ◌≤◌, Bool, true, false, not, nat_eq, if◌then◌else◌, List, [], ◌∷◌, ◌++◌, map, filter, flat_map}
+use Rattle.text_lines.specs.Lines.{Row, text_of}
+use Rattle.text_lines.specs.Numbers.{plain_word}
+use Rattle.ledger_model.specs.declared.job.Job.{Job}
+use Rattle.ledger_model.specs.Fits.{JobFits}
+use Rattle.ledger_model.specs.Straight.{IsStraight}
+use Rattle.script_text.specs.Printing.{head_line, refs_line, opening_line, worker_lines}
+
+-- references in ascending order, from `next` on
+abbrev pub OpeningsAscend : ℕ → ℕ → List (ℕ × ℕ) → Type 0
+OpeningsAscend refs next [] = Unit {0}
+OpeningsAscend refs next (opening ∷ openings) =
+    (next ≤ opening.0) × (opening.0 < refs) × (opening.1 < 2 ^ 64) × OpeningsAscend refs (opening.0 + 1) openings
+
+abbrev pub is_set : ℕ × ℕ → Bool
+is_set opening = not (nat_eq opening.1 0)
+
+-- The text is the head and then lines which, with their numbers in canonical decimal, are the job's: a `refs` line or none, `ref` lines, and the lines of its workers. One space stands between words and a line feed behind each line.
+pub record IsTextOf (text : List ℕ) (job : Job) : Type 0 where
+  -- the lines behind the head
+  pub lines : List Row
+  -- whether there is a `refs` line
+  pub header : Bool
+  -- what the `ref` lines say, values of 0 too
+  pub written : List (ℕ × ℕ)
+  pub text_is : text ≡ text_of (head_line ∷ lines)
+  pub lines_are : map (map plain_word) lines ≡ (if header then refs_line job.refs ∷ [] else []) ++ (map opening_line written ++ flat_map worker_lines job.workers)
+  pub no_header : header ≡ false → job.refs ≡ 0
+  pub ascending : OpeningsAscend job.refs 0 written
+  pub openings : job.openings ≡ filter is_set written
+  pub fits : JobFits job
+  pub straight : IsStraight job
