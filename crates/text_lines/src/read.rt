@@ -1,8 +1,8 @@
 //! Cutting the first line off a text and the first field or word off a line, and reading a number.
 
 ghost use Rattle.std.specs.Prelude.{◌≡◌, ◌^◌, ◌<◌, ◌↔◌, [], ◌∷◌, ◌++◌, Some, None, false, not, length, map, nat_eq, nat_lt, position, slice_index, if◌then◌else◌, ◌&&◌, IsTrue, IfSome, MatchOption};
-ghost use Rattle.std.specs.List.{before_first, after_first};
-ghost use Rattle.std.specs.Str.{all_ascii_digits};
+ghost use Rattle.std.specs.Char.{is_ascii_digit};
+ghost use Rattle.std.specs.List.{before_first, after_first, list_all};
 ghost use Rattle.std.specs.Str.Parse.{digits_value};
 ghost use Rattle.text_lines.specs.Lines.{lines, fields, words, text_of, is_feed, is_space, is_nonempty, ends_every_line};
 ghost use Rattle.text_lines.specs.Numbers.{number_of};
@@ -56,16 +56,16 @@ pub fn cut_word(line: &[u8]) -> Option<(&[u8], &[u8])>
     }
 }
 
-/// The word that a line begins with, and what stands behind it.
+/// The word that a line begins with, and what stands behind it and its space.
 fn first_word(line: &[u8]) -> (&[u8], &[u8])
     requires some { 0 < length line.now }
     requires begins { is_space (slice_index line.now 0) ≡ false }
     ensures cut { words line.now ≡ result.0.now ∷ words result.1.now }
     ensures shorter { length result.1.now < length line.now }
 {
-    match byte_at(line, b' ') {
-        Some(end) => line.split_at(end),
-        None => (line, &line[line.len()..]),
+    match cut_field(line) {
+        (word, Some(rest)) => (word, rest),
+        (word, None) => (word, &line[line.len()..]),
     }
 }
 
@@ -91,13 +91,13 @@ pub fn number_of(word: &[u8]) -> Option<u64>
 }
 
 fn has_only_digits(word: &[u8]) -> bool
-    ensures { result ≡ all_ascii_digits word.now }
+    ensures { result ≡ list_all (λ b. is_ascii_digit b) word.now }
 {
     word.iter().all(|b| b.is_ascii_digit())
 }
 
 fn value_of_digits(digits: &[u8]) -> Option<u64>
-    requires { IsTrue (all_ascii_digits digits.now) }
+    requires { IsTrue (list_all (λ b. is_ascii_digit b) digits.now) }
     ensures { result ≡ (if is_nonempty digits.now && nat_lt (digits_value 10 digits.now) (2 ^ 64) then Some (digits_value 10 digits.now) else None) }
 {
     match str::from_utf8(digits) {
