@@ -7,7 +7,7 @@ abbrev pub invariant-loop-piece : goal.invariant-loop-piece
 invariant-loop-piece g l = record {
   taken : Consumes (g.S.Source.left l.initial.source) (g.S.Source.left l.source) l.bytes.items;
   within : vec_len l.bytes ≤ most_bytes + 1;
-  never_falls : g.S.Source.faults l.initial.source ≤ g.S.Source.faults l.source
+  never_falls : g.S.Source.faults l.initial.source ≤ g.S.Source.faults l.source;
 }
 
 abbrev pub decreases-loop-piece : goal.decreases-loop-piece

@@ -8,5 +8,5 @@ pub loop-at-preserved : goal.loop-at-preserved
 loop-at-preserved g c = record {
   appended = rw take-add (Appends-trans _ _ _ _ _ c.loop-at.invariant.appended (simp take_rest at c.in_ok-at.ensures.bytes));
   within = grind arith;
-  never_falls = omega (arith, c.in_ok-at.ensures.cause.never_falls)
+  never_falls = omega (arith, c.in_ok-at.ensures.cause.never_falls);
 }
