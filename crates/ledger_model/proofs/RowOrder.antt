@@ -4,7 +4,7 @@ use Rattle.std.specs.declared.cmp.Ordering.{Ordering}
 use Rattle.std.specs.declared.cmp.Ordering.TheVariants.{Less, Equal, Greater}
 use Rattle.std.specs.Ordering.{is_lt, nat_cmp, bool_cmp, ordering_then}
 use Rattle.ledger_model.specs.declared.listing.Row.{Row}
-use Rattle.ledger_model.specs.Order.{by, kind_rank, stands_before}
+use Rattle.ledger_model.specs.Order.{less_or_tied, kind_rank, stands_before}
 
 assoc : (x y z : Ordering) → ordering_then (ordering_then x y) z ≡ ordering_then x (ordering_then y z)
 assoc Less y z = refl
@@ -16,10 +16,10 @@ less_by_tests true equal o = refl
 less_by_tests false true o = refl
 less_by_tests false false o = refl
 
-less_by_number : (a b : ℕ) (o : Ordering) → is_lt (ordering_then (nat_cmp a b) o) ≡ by a b (is_lt o)
+less_by_number : (a b : ℕ) (o : Ordering) → is_lt (ordering_then (nat_cmp a b) o) ≡ less_or_tied a b (is_lt o)
 less_by_number a b o = less_by_tests (nat_lt a b) (nat_eq a b) o
 
-less_by_kind : (v w : Bool) (o : Ordering) → is_lt (ordering_then (bool_cmp (not v) (not w)) o) ≡ by (kind_rank v) (kind_rank w) (is_lt o)
+less_by_kind : (v w : Bool) (o : Ordering) → is_lt (ordering_then (bool_cmp (not v) (not w)) o) ≡ less_or_tied (kind_rank v) (kind_rank w) (is_lt o)
 less_by_kind true true o = refl
 less_by_kind true false o = refl
 less_by_kind false true o = refl
@@ -42,9 +42,9 @@ stands_before_by_parts a b =
     let worker = nat_cmp a.worker b.worker in
     let number = nat_cmp a.number b.number in
     sym (
-      ap is_lt (assoc (ordering_then position kind) worker number ∙ assoc position kind (ordering_then worker number))
-      ∙ less_by_number a.position b.position (ordering_then kind (ordering_then worker number))
-      ∙ ap (by a.position b.position) (
-          less_by_kind a.writer b.writer (ordering_then worker number)
-          ∙ ap (by (kind_rank a.writer) (kind_rank b.writer)) (less_by_number a.worker b.worker number ∙ ap (by a.worker b.worker) (last a.number b.number)))
+    ap is_lt (assoc (ordering_then position kind) worker number ∙ assoc position kind (ordering_then worker number))
+    ∙ less_by_number a.position b.position (ordering_then kind (ordering_then worker number))
+    ∙ ap (less_or_tied a.position b.position) (
+    less_by_kind a.writer b.writer (ordering_then worker number)
+    ∙ ap (less_or_tied (kind_rank a.writer) (kind_rank b.writer)) (less_by_number a.worker b.worker number ∙ ap (less_or_tied a.worker b.worker) (last a.number b.number)))
     )

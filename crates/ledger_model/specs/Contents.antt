@@ -1,5 +1,5 @@
 -- What a job's references, maps and slots hold at the start.
-use Rattle.std.specs.Prelude.{ℕ, ◌*◌, max, replicate, List, [], ◌∷◌, length, slice_set}
+use Rattle.std.specs.Prelude.{ℕ, replicate, List, [], ◌∷◌, slice_set}
 use Rattle.ledger_model.specs.declared.job.Contents.{Contents}
 use Rattle.ledger_model.specs.declared.job.Job.{Job}
 

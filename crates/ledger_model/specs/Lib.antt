@@ -7,3 +7,4 @@ pub mod Report
 pub mod Run
 pub mod Settle
 pub mod Straight
+pub mod Turns

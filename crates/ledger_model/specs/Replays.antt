@@ -1,11 +1,12 @@
 -- A listing tells what running a job's scripts alone gives, one after another in the listing's order.
-use Rattle.std.specs.Prelude.{◌≡◌, ℕ, zero, suc, ◌+◌, ◌-◌, ◌<◌, ◌≤◌, Bool, true, false, nat_eq, IsTrue, MatchBool, List, [], ◌∷◌, length, map, filter, take, slice_index_or}
+use Rattle.std.specs.Prelude.{◌≡◌, ℕ, ◌+◌, ◌-◌, ◌≤◌, nat_eq, IsTrue, MatchBool, List, [], ◌∷◌, length, map, filter, take, slice_index_or}
 use Rattle.std.specs.List.{AllByRecursion, range_with_len}
 use Rattle.stm_model.specs.declared.settings.Settings.{Settings}
 use Rattle.ledger_model.specs.declared.job.Contents.{Contents}
 use Rattle.ledger_model.specs.declared.job.Job.{Job}
 use Rattle.ledger_model.specs.declared.listing.Listing.{Listing}
 use Rattle.ledger_model.specs.declared.listing.Row.{Row}
+use Rattle.ledger_model.specs.declared.listing.RowResult.{RowResult}
 use Rattle.ledger_model.specs.declared.listing.RowResult.TheVariants.{Done}
 use Rattle.ledger_model.specs.declared.script.Script.{Script}
 use Rattle.ledger_model.specs.declared.script.Statement.{Statement}
@@ -34,13 +35,14 @@ pub record NamesScript (job : Job) (worker number : ℕ) : Type 0 where
 abbrev pub writers_of : List Row → List Row
 writers_of rows = filter (λ row. row.writer) rows
 
--- what the row's script does, run alone on these contents
-abbrev pub run_of : Job → Row → Contents → Outcome
-run_of job row contents = run (block_of job row.worker row.number) contents
+-- what a script does, run alone on these contents
+abbrev pub run_of : Job → ℕ → ℕ → Contents → Outcome
+run_of job worker number contents = run (block_of job worker number) contents
 
--- what it leaves, with the blocks that it drew in use
+-- what a writer leaves, with the blocks that it drew in use
 abbrev pub left_by : Job → Row → Contents → Contents
-left_by job row contents = let left = (run_of job row contents).after.contents in record left { used = left.used + row.drawn }
+left_by job row contents =
+    let left = (run_of job row.worker row.number contents).after.contents in record left { used = left.used + row.drawn }
 
 -- the writers run alone, one after another
 abbrev pub after_writers : Job → List Row → Contents → Contents
@@ -53,21 +55,27 @@ contents_after job rows n = after_writers job (take n (writers_of rows)) (openin
 
 -- ---- what a row says
 
--- The row's script, run alone on these contents after so many writers, is settled like this, and the row tells its prints and its handlers' runs.
-pub record Tells (job : Job) (settings : Settings) (row : Row) (contents : Contents) (writers : ℕ) (how : Settled) : Type 0 where
-  pub settled : settle (run_of job row contents) writers settings.clock ≡ how
-  pub done : row.result ≡ Done
-  pub prints : row.prints ≡ (run_of job row contents).after.prints
-  pub runs : row.runs ≡ handler_runs how (run_of job row contents).after
+-- The script that gave this outcome after so many writers is settled like this, and the row has these prints and the runs of its handlers.
+pub record Tells (settings : Settings) (row : Row) (outcome : Outcome) (writers : ℕ) (how : Settled) (prints : List ℕ) : Type 0 where
+  pub settled : settle outcome writers settings.clock ≡ how
+  pub printed : row.prints ≡ prints
+  pub runs : row.runs ≡ handler_runs how outcome.after
 
 -- a committed writer, on what the writers before it left
 pub record TellsWriter (job : Job) (settings : Settings) (rows : List Row) (row : Row) : Type 0 where
-  pub tells : Tells job settings row (contents_after job rows (row.position - 1)) (row.position - 1) Commits
-  pub drawn : row.drawn ≤ allowance (run_of job row (contents_after job rows (row.position - 1))).after
+  pub done : row.result ≡ Done
+  pub tells : let outcome = run_of job row.worker row.number (contents_after job rows (row.position - 1)) in
+      Tells settings row outcome (row.position - 1) Commits outcome.after.prints
+  pub drawn : row.drawn ≤ allowance (run_of job row.worker row.number (contents_after job rows (row.position - 1))).after
 
--- a script that only reads, on what the writers up to its position left
+-- What a script that wrote nothing was settled as. So far it only reads.
+abbrev pub TellsResult : RowResult → Settings → Row → Outcome → Type 0
+TellsResult Done settings row outcome = Tells settings row outcome row.position OnlyReads outcome.after.prints
+TellsResult _ settings row outcome = ⊥
+
+-- any other script, on what the writers up to its position left
 pub record TellsReader (job : Job) (settings : Settings) (rows : List Row) (row : Row) : Type 0 where
-  pub tells : Tells job settings row (contents_after job rows row.position) row.position OnlyReads
+  pub tells : TellsResult row.result settings row (run_of job row.worker row.number (contents_after job rows row.position))
   pub drawn : row.drawn ≡ 0
 
 abbrev pub TellsRow : Job → Settings → List Row → Row → Type 0
@@ -83,21 +91,14 @@ InOrder (row ∷ rows) = AllByRecursion (λ later. IsTrue (stands_before row lat
 abbrev pub rows_of : ℕ → List Row → List Row
 rows_of worker rows = filter (λ row. nat_eq row.worker worker) rows
 
--- the worker's scripts are all there, once each and in order
-abbrev pub ListsScripts : Job → List Row → ℕ → Type 0
-ListsScripts job rows worker = map (λ row. row.number) (rows_of worker rows) ≡ range_with_len 1 (length (scripts_of job worker))
-
--- a writer stands behind the other row's position, and any other row not before it
-abbrev pub ComesAfter : Row → Row → Type 0
-ComesAfter row other = MatchBool row.writer (other.position < row.position) (other.position ≤ row.position)
-
--- the workers ran one after another: each row comes after all rows of lower-numbered workers
-abbrev pub InTurns : List Row → Type 0
-InTurns rows = AllByRecursion (λ row. AllByRecursion (λ other. other.worker < row.worker → ComesAfter row other) rows) rows
+-- the worker's rows count up from its first script, one row each, and no script is left
+pub record ListsScripts (job : Job) (rows : List Row) (worker : ℕ) : Type 0 where
+  pub numbered : map (λ row. row.number) (rows_of worker rows) ≡ range_with_len 1 (length (rows_of worker rows))
+  pub all : length (rows_of worker rows) ≡ length (scripts_of job worker)
 
 -- ---- the whole
 
--- Running the listed scripts alone, in the listed order, gives the listing.
+-- Running the listed scripts alone, in the listed order, gives the listing. So far no attempt is rolled back and every script is done.
 pub record Replays (job : Job) (settings : Settings) (listing : Listing) : Type 0 where
   pub in_order : InOrder listing.rows
   pub stamps : map (λ row. row.position) (writers_of listing.rows) ≡ range_with_len 1 (length (writers_of listing.rows))
@@ -105,7 +106,6 @@ pub record Replays (job : Job) (settings : Settings) (listing : Listing) : Type 
   pub named : AllByRecursion (λ row. NamesScript job row.worker row.number) listing.rows
   pub complete : (worker : ℕ) → 1 ≤ worker → worker ≤ length job.workers → ListsScripts job listing.rows worker
   pub rows : AllByRecursion (TellsRow job settings listing.rows) listing.rows
-  pub in_turns : InTurns listing.rows
   pub rolled : listing.rolled ≡ []
   pub blocked : listing.blocked ≡ []
   pub worn : listing.worn ≡ []

@@ -1,5 +1,5 @@
 -- What a script does, run alone on plain contents.
-use Rattle.std.specs.Prelude.{ℕ, zero, suc, ◌+◌, ◌-◌, ◌%◌, ◌^◌, Bool, true, false, not, ◌||◌, nat_eq, nat_lt, if◌then◌else◌, List, [], ◌∷◌, ◌++◌, length, map, filter, reverse, replicate, drop, slice_index, slice_index_or, slice_set, unwrap_or, is_some}
+use Rattle.std.specs.Prelude.{ℕ, zero, suc, ◌+◌, ◌-◌, ◌%◌, ◌^◌, Bool, true, false, nat_eq, nat_lt, if◌then◌else◌, List, [], ◌∷◌, ◌++◌, length, map, filter, reverse, replicate, drop, slice_index, slice_index_or, slice_set, unwrap_or, is_some, sum, sum_by}
 use Rattle.stm_model.specs.declared.cause.HookPhase.{HookPhase}
 use Rattle.stm_model.specs.declared.cause.HookPhase.TheVariants.{Rollback, Completion}
 use Rattle.ledger_model.specs.declared.job.Contents.{Contents}
@@ -86,15 +86,9 @@ put_off body s = record s { lates = s.lates ++ body ∷ [] }
 
 -- ---- allowances
 
--- the last of these numbers, or 0
-abbrev pub last_of : List ℕ → ℕ
-last_of [] = 0
-last_of (n ∷ []) = n
-last_of (n ∷ m ∷ ns) = last_of (m ∷ ns)
-
--- how many blocks the operations so far may have drawn
+-- how many blocks the operations so far may have drawn: the last total, or 0
 abbrev pub allowance : State → ℕ
-allowance s = last_of s.totals
+allowance s = slice_index s.totals (length s.totals - 1)
 
 abbrev pub allowed : ℕ → State → State
 allowed n s = record s { totals = s.totals ++ (allowance s + n) ∷ [] }
@@ -216,6 +210,17 @@ run_block block = in_turn (map known block)
 
 -- ---- scripts
 
+-- a statement and those inside it
+abbrev pub count_step : Statement-F ℕ → ℕ
+count_step (Inner r block) = 1 + sum block
+count_step (Either parts) = 1 + sum_by sum parts
+count_step (Late block) = 1 + sum block
+count_step _ = 1
+
+-- how many statements there are, nested ones counted
+abbrev pub statement_count : List Statement → ℕ
+statement_count block = sum_by (fold-Statement ℕ count_step) block
+
 -- the first body that was put off, and then the rest of the run
 abbrev pub next_late : Meaning → State → List (List Statement) → Outcome
 next_late later s [] = kept s
@@ -240,6 +245,6 @@ start contents = record {
   totals = [];
 }
 
--- A script's block and then the bodies that it put off. A script has fewer than 2 ^ 32 statements and each runs at most once, so so many turns suffice.
+-- A script's block and then the bodies that it put off. Each `late` puts off one body and runs at most once, so as many turns as there are statements suffice.
 abbrev pub run : List Statement → Contents → Outcome
-run block contents = and_then (run_block block (start contents)) (late_bodies (2 ^ 32))
+run block contents = and_then (run_block block (start contents)) (late_bodies (statement_count block))

@@ -1,5 +1,5 @@
 -- How a script is settled after so many committed writers, and which handlers run.
-use Rattle.std.specs.Prelude.{ℕ, Bool, true, false, nat_lt, if◌then◌else◌, List, ◌++◌}
+use Rattle.std.specs.Prelude.{ℕ, Bool, true, false, nat_lt, if◌then◌else◌, List, [], ◌++◌}
 use Rattle.stm_model.specs.declared.cause.HookPhase.{HookPhase}
 use Rattle.stm_model.specs.declared.cause.HookPhase.TheVariants.{Preparing, Committing, Commit, Completion}
 use Rattle.ledger_model.specs.Run.{End, Kept, Failed, Retried, State, Outcome, of_phase, undoing}
@@ -39,10 +39,10 @@ is_after_commit _ = false
 abbrev pub completing : List (HookPhase × ℕ) → List (HookPhase × ℕ)
 completing hooks = of_phase is_preparing hooks ++ (of_phase is_committing hooks ++ of_phase is_after_commit hooks)
 
--- The handlers that run, those at undone blocks first. What retries is settled later, and lists none.
+-- The handlers that run, those at undone blocks first. Those of a script that retries are never looked at.
 abbrev pub handler_runs : Settled → State → List (HookPhase × ℕ)
 handler_runs Commits s = s.runs ++ completing s.hooks
 handler_runs OnlyReads s = s.runs ++ completing s.hooks
 handler_runs Spends s = s.runs ++ (of_phase is_preparing s.hooks ++ undoing s.hooks)
 handler_runs (Fails code) s = s.runs ++ undoing s.hooks
-handler_runs Retries s = s.runs
+handler_runs Retries s = []

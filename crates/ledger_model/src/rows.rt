@@ -70,3 +70,21 @@ impl Rows {
             .sort_unstable_by_key(|row| (row.position, !row.writer, row.worker, row.number));
     }
 }
+
+/// A list made of a `Vec`, without taking memory.
+impl From<Vec<Row>> for Rows {
+    ghost from_gives = { λ entries rows. rows ≡ entries.items };
+
+    fn from(entries: Vec<Row>) -> Rows {
+        Rows { entries }
+    }
+}
+
+/// The `Vec` of a list, without taking memory.
+impl From<Rows> for Vec<Row> {
+    ghost from_gives = { λ rows entries. entries.items ≡ rows };
+
+    fn from(rows: Rows) -> Vec<Row> {
+        rows.entries
+    }
+}

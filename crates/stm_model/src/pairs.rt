@@ -33,6 +33,14 @@ impl Pairs {
         }
     }
 
+    /// The map of these pairs, without taking memory.
+    pub fn from_vec(entries: Vec<(u64, u64)>) -> Pairs
+        requires { KeysAscend entries.items }
+        ensures { result ≡ entries.items }
+    {
+        Pairs { entries }
+    }
+
     pub fn len(&self) -> usize
         ensures { result ≡ length self.now }
     {
@@ -71,5 +79,14 @@ impl Pairs {
         ensures ascending { KeysAscend self.now }
     {
         self.entries.as_slice()
+    }
+}
+
+/// The pairs of a map as a `Vec`, without taking memory.
+impl From<Pairs> for Vec<(u64, u64)> {
+    ghost from_gives = { λ map entries. entries.items ≡ map };
+
+    fn from(map: Pairs) -> Vec<(u64, u64)> {
+        map.entries
     }
 }
