@@ -9,6 +9,13 @@ both false b h = cc
 pub and_true : (a b : Bool) → a ≡ true → b ≡ true → (a && b) ≡ true
 and_true a b p q = rw (p, q)
 
+pub not_true : (b : Bool) → not b ≡ true → b ≡ false
+not_true true h = cc
+not_true false h = refl
+
+pub not_false : (b : Bool) → b ≡ false → not b ≡ true
+not_false b h = rw h refl
+
 pub list_all-join : {X : Type 0} (p : X → Bool) (xs ys : List X) → list_all p xs ≡ true → list_all p ys ≡ true → list_all p (xs ++ ys) ≡ true
 list_all-join p [] ys h k = k
 list_all-join p (x ∷ xs) ys h k = let e = both (p x) (list_all p xs) h in and_true (p x) (list_all p (xs ++ ys)) e.0 (list_all-join p xs ys e.1 k)

@@ -42,18 +42,18 @@ pub digits_give : {E : Type 0} (bs : List ℕ) (r : Result ℕ E) → all_digits
     → result_ok r ≡ (if is_nonempty bs && nat_lt (digits_value 10 bs) (2 ^ 64) then Some (digits_value 10 bs) else None)
 digits_give {E} bs (Ok x) p h =
     let k = parse_digits own_digits {E = E} 64 bs (Ok x) h p in at_some bs x k.0.0 k.0.1 k.1 where
-  at_some : (bs : List ℕ) (x : ℕ) → 0 < length bs → digits_value 10 bs < 2 ^ 64 → x ≡ digits_value 10 bs → Some x ≡ (if is_nonempty bs && nat_lt (digits_value 10 bs) (2 ^ 64) then Some (digits_value 10 bs) else None)
-  at_some [] x l m e = absurd (omega arith)
-  at_some (c ∷ cs) x l m e = rw (test_lt (digits_value 10 (c ∷ cs)) (2 ^ 64) m) (ap Some e)
+      at_some : (bs : List ℕ) (x : ℕ) → 0 < length bs → digits_value 10 bs < 2 ^ 64 → x ≡ digits_value 10 bs → Some x ≡ (if is_nonempty bs && nat_lt (digits_value 10 bs) (2 ^ 64) then Some (digits_value 10 bs) else None)
+      at_some [] x l m e = absurd (omega arith)
+      at_some (c ∷ cs) x l m e = rw (test_lt (digits_value 10 (c ∷ cs)) (2 ^ 64) m) (ap Some e)
 digits_give {E} bs (Err y) p h =
     let k = parse_digits own_digits {E = E} 64 bs (Err y) h p in at_none bs k where
-  at_none : (bs : List ℕ) → ((0 < length bs) × (digits_value 10 bs < 2 ^ 64) → ⊥)
-      → None ≡ (if is_nonempty bs && nat_lt (digits_value 10 bs) (2 ^ 64) then Some (digits_value 10 bs) else None)
-  at_none [] k = refl
-  at_none (c ∷ cs) k = by (nat_lt (digits_value 10 (c ∷ cs)) (2 ^ 64)) refl where
-    by : (b : Bool) → nat_lt (digits_value 10 (c ∷ cs)) (2 ^ 64) ≡ b → None ≡ (if true && nat_lt (digits_value 10 (c ∷ cs)) (2 ^ 64) then Some (digits_value 10 (c ∷ cs)) else None)
-    by true e = absurd (k (omega arith, lt_from_test (digits_value 10 (c ∷ cs)) (2 ^ 64) e))
-    by false e = rw e refl
+      at_none : (bs : List ℕ) → ((0 < length bs) × (digits_value 10 bs < 2 ^ 64) → ⊥)
+          → None ≡ (if is_nonempty bs && nat_lt (digits_value 10 bs) (2 ^ 64) then Some (digits_value 10 bs) else None)
+      at_none [] k = refl
+      at_none (c ∷ cs) k = by (nat_lt (digits_value 10 (c ∷ cs)) (2 ^ 64)) refl where
+        by : (b : Bool) → nat_lt (digits_value 10 (c ∷ cs)) (2 ^ 64) ≡ b → None ≡ (if true && nat_lt (digits_value 10 (c ∷ cs)) (2 ^ 64) then Some (digits_value 10 (c ∷ cs)) else None)
+        by true e = absurd (k (omega arith, lt_from_test (digits_value 10 (c ∷ cs)) (2 ^ 64) e))
+        by false e = rw e refl
 
 -- ---- the decimal digits of a number
 
@@ -85,9 +85,9 @@ below_limit n v e h = test_lt v (2 ^ 64) (omega arith)
 decimal_number : (n : ℕ) → n < 2 ^ 64 → is_number (decimal n) ≡ true
 decimal_number n h =
     and_true (nat_le (length (decimal n)) 20 && all_digits (decimal n) && is_nonempty (decimal n)) (nat_lt (digits_value 10 (decimal n)) (2 ^ 64))
-        (and_true (nat_le (length (decimal n)) 20 && all_digits (decimal n)) (is_nonempty (decimal n))
-            (and_true (nat_le (length (decimal n)) 20) (all_digits (decimal n)) (test_le (length (decimal n)) 20 (short n h)) (decimal_digits n h)) (decimal_some n h))
-        (below_limit n (digits_value 10 (decimal n)) (decimal_value n h) h)
+    (and_true (nat_le (length (decimal n)) 20 && all_digits (decimal n)) (is_nonempty (decimal n))
+    (and_true (nat_le (length (decimal n)) 20) (all_digits (decimal n)) (test_le (length (decimal n)) 20 (short n h)) (decimal_digits n h)) (decimal_some n h))
+    (below_limit n (digits_value 10 (decimal n)) (decimal_value n h) h)
 
 -- they say that number
 pub number_of-decimal : (n : ℕ) → n < 2 ^ 64 → number_of (decimal n) ≡ Some n
@@ -106,8 +106,8 @@ number_below word n e =
     let h = is_some_number word n e in
     let l = lt_from_test (digits_value 10 word) (2 ^ 64) (both (nat_le (length word) 20 && all_digits word && is_nonempty word) (nat_lt (digits_value 10 word) (2 ^ 64)) h.0).1 in
     at (digits_value 10 word) h.1 l where
-  at : (v : ℕ) → v ≡ n → v < 2 ^ 64 → n < 2 ^ 64
-  at v e l = omega arith
+      at : (v : ℕ) → v ≡ n → v < 2 ^ 64 → n < 2 ^ 64
+      at v e l = omega arith
 
 pub number_word : (word : List ℕ) (n : ℕ) → number_of word ≡ Some n → IsTrue (is_word word)
 number_word word n e =

@@ -3,8 +3,11 @@
 #![tactic(auto)]
 
 pub mod laws;
-pub mod read;
-pub mod write;
+mod read;
+mod write;
 
 pub use read::{cut_field, cut_line, cut_word, ends_every_line, number_of};
 pub use write::{Memory, end_line, put, put_number, put_number_word, put_word};
+
+#[cfg(test)]
+mod tests;
