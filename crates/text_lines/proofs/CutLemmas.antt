@@ -1,12 +1,12 @@
 -- Cutting off the first line, the first field and the first word.
-use Rattle.std.proofs.Common.{◌≡◌, ℕ, ◌<◌, ◌≤◌, ◌+◌, ◌-◌, Bool, true, false, not, cond, nat_eq, nat_lt, List, [], ◌∷◌, ◌++◌, filter, take, drop, length, get_or, Option, Some, None, refl, sym, ap, subst, ◌∙◌, arith}
+use Rattle.std.proofs.Common.{◌≡◌, ℕ, ◌<◌, ◌≤◌, ◌+◌, ◌-◌, Bool, true, false, not, cond, nat_lt, List, [], ◌∷◌, ◌++◌, take, drop, length, get_or, Some, None, refl, sym, ap, subst, ◌∙◌, arith}
 use Rattle.std.proofs.lemmas.Bool.{eqb-true}
 use Rattle.std.proofs.lemmas.Bool.Decides.{nat_tests}
 use Rattle.std.proofs.lemmas.Grind.{common_steps}
-use Rattle.std.proofs.lemmas.List.{take_all, drop_all, take-append-drop}
+use Rattle.std.proofs.lemmas.List.{take_all, take-append-drop}
 use Rattle.std.proofs.lemmas.List.Sums.{split_at_first, passes_at_first, fails_before_first, list_all-from_AllPass}
-use Rattle.std.specs.List.{list_all, onto_first, position_or_len, position, before_first, after_first}
-use Rattle.text_lines.specs.Lines.{Row, is_feed, is_space, is_nonempty, lines, fields, words, is_field}
+use Rattle.std.specs.List.{list_all, position_or_len, position, before_first, after_first}
+use Rattle.text_lines.specs.Lines.{is_feed, is_space, lines, fields, words}
 use Rattle.text_lines.proofs.Lists.{both, not_true, not_false, list_all-weaker}
 use Rattle.text_lines.proofs.LineLemmas.{not_space, fields_first, fields_last, lines_first, lines_last}
 

@@ -5,7 +5,7 @@ use Rattle.std.proofs.lemmas.Bool.{eqb-true}
 use Rattle.std.proofs.lemmas.Grind.{flat_map-append}
 use Rattle.std.proofs.lemmas.List.{append-nil}
 use Rattle.std.proofs.lemmas.List.Splits.{join_with_byte-slice_split}
-use Rattle.std.specs.List.{slice_split, onto_first, join_with_byte, flat_map, list_all, AllByRecursion}
+use Rattle.std.specs.List.{onto_first, join_with_byte, flat_map, list_all, AllByRecursion}
 use Rattle.text_lines.specs.Lines.{Row, is_feed, is_space, is_nonempty, lines, fields, words, line_of, text_of, spaced, ends_every_line, is_visible, is_word, AreWords, is_field, AreFields}
 use Rattle.text_lines.proofs.Lists.{both, and_true, not_true, not_false, list_all-join, list_all-weaker, AllByRecursion-map}
 
@@ -237,29 +237,3 @@ ended_where_same text e = at (ends_every_line text) (sym (text_comes_back text) 
 
 pub ends_where_same : (text : List ℕ) (v : Bool) → v ≡ ends_every_line text → IsTrue v ↔ (text_of (map fields (lines text)) ≡ text)
 ends_where_same text v e = (λ h. same_where_ended text (sym e ∙ h), λ h. e ∙ ended_where_same text h)
-
--- ---- writing rows
-
-join_is : (word : List ℕ) (more : Row) → join_with_byte 32 (word ∷ more) ≡ word ++ spaced more
-join_is word [] = sym (append-nil word)
-join_is word (next ∷ more) = ap (λ (t : List ℕ). word ++ 32 ∷ t) (join_is next more)
-
--- a row's line word by word
-pub line_by_words : (word : List ℕ) (more : Row) → line_of (word ∷ more) ≡ word ++ spaced more ++ 10 ∷ []
-line_by_words word more = ap (λ (t : List ℕ). t ++ 10 ∷ []) (join_is word more)
-
--- a row that is put word by word is put
-pub row_put : (old first whole new : List ℕ) (word : List ℕ) (more : Row) → first ≡ old ++ word → whole ≡ first ++ spaced more → new ≡ whole ++ 10 ∷ [] → new ≡ old ++ line_of (word ∷ more)
-row_put old first whole new word more e f g =
-    g ∙ ap (λ (t : List ℕ). t ++ 10 ∷ []) f ∙ ap (λ (t : List ℕ). (t ++ spaced more) ++ 10 ∷ []) e
-    ∙ ap (λ (t : List ℕ). t ++ 10 ∷ []) (append_assoc old word (spaced more)) ∙ append_assoc old (word ++ spaced more) (10 ∷ [])
-    ∙ sym (ap (λ (t : List ℕ). old ++ t) (line_by_words word more))
-
-pub spaced-append : (xs ys : Row) → spaced (xs ++ ys) ≡ spaced xs ++ spaced ys
-spaced-append xs ys = flat_map-append (λ word. 32 ∷ word) xs ys
-
-pub text_of-append : (xs ys : List Row) → text_of (xs ++ ys) ≡ text_of xs ++ text_of ys
-text_of-append xs ys = flat_map-append line_of xs ys
-
-pub text_of-one : (row : Row) → text_of (row ∷ []) ≡ line_of row
-text_of-one row = append-nil (line_of row)
