@@ -49,12 +49,14 @@ feed_at text l =
     split_at_first is_feed text 0 l
     ∙ ap (λ (b : ℕ). before_first is_feed text ++ (b ∷ after_first is_feed text)) (eqb-true (get_or text (position_or_len is_feed text) 0) 10 (passes_at_first is_feed text 0 l))
 
+-- where a line feed is found at i, the first line ends there
 pub line_found : (text : List ℕ) (i : ℕ) → position is_feed text ≡ Some i → lines text ≡ take i text ∷ lines (drop (i + 1) text)
 line_found text i e =
     let h = found is_feed text i e in
     subst (λ (n : ℕ). lines text ≡ take n text ∷ lines (drop (n + 1) text)) h.0
     (ap lines (feed_at text h.1) ∙ lines_first (before_first is_feed text) (after_first is_feed text) (front_lacks is_feed text))
 
+-- where none is, the text is one line
 pub line_missed : (text : List ℕ) → 0 < length text → position is_feed text ≡ None → lines text ≡ text ∷ []
 line_missed [] some e = absurd (omega arith)
 line_missed (b ∷ text) some e = lines_last b text (all_lack is_feed (b ∷ text) (missed is_feed (b ∷ text) e))
@@ -66,20 +68,24 @@ space_at line l =
     split_at_first is_space line 0 l
     ∙ ap (λ (b : ℕ). before_first is_space line ++ (b ∷ after_first is_space line)) (eqb-true (get_or line (position_or_len is_space line) 0) 32 (passes_at_first is_space line 0 l))
 
+-- where a space is found at i, it stands between the two parts
 pub bytes_found : (line : List ℕ) (i : ℕ) → position is_space line ≡ Some i → line ≡ take i line ++ (32 ∷ drop (i + 1) line)
 bytes_found line i e = let h = found is_space line i e in subst (λ (n : ℕ). line ≡ take n line ++ (32 ∷ drop (n + 1) line)) h.0 (space_at line h.1)
 
+-- and the first field ends there
 pub field_found : (line : List ℕ) (i : ℕ) → position is_space line ≡ Some i → fields line ≡ take i line ∷ fields (drop (i + 1) line)
 field_found line i e =
     let h = found is_space line i e in
     subst (λ (n : ℕ). fields line ≡ take n line ∷ fields (drop (n + 1) line)) h.0
     (ap fields (space_at line h.1) ∙ fields_first (before_first is_space line) (after_first is_space line) (front_lacks is_space line))
 
+-- where none is, the line is one field
 pub field_missed : (line : List ℕ) → position is_space line ≡ None → fields line ≡ line ∷ []
 field_missed line e = fields_last line (all_lack is_space line (missed is_space line e))
 
 -- ---- words
 
+-- spaces at the front change no words
 pub spaces_skipped : (spaces rest : List ℕ) → list_all is_space spaces ≡ true → words (spaces ++ rest) ≡ words rest
 spaces_skipped [] rest h = refl
 spaces_skipped (b ∷ spaces) rest h = let e = both (is_space b) (list_all is_space spaces) h in rw e.0 (spaces_skipped spaces rest e.1)
@@ -91,6 +97,7 @@ twice false h = cc
 only_spaces : (xs : List ℕ) → list_all (λ b. not (not_space b)) xs ≡ true → list_all is_space xs ≡ true
 only_spaces = list_all-weaker (λ b. not (not_space b)) is_space (λ b. twice (is_space b))
 
+-- where another byte is found at i, the words are those from there on
 pub word_begins : (line : List ℕ) (i : ℕ) → position not_space line ≡ Some i → words line ≡ words (drop i line)
 word_begins line i e =
     let h = found not_space line i e in
@@ -98,6 +105,7 @@ word_begins line i e =
     (ap words (sym (take-append-drop (position_or_len not_space line) line))
     ∙ spaces_skipped (before_first not_space line) (drop (position_or_len not_space line) line) (only_spaces (before_first not_space line) (front_lacks not_space line)))
 
+-- and what begins there begins with a word
 pub begins_with_word : (line : List ℕ) (i : ℕ) → position not_space line ≡ Some i → is_space (get_or (drop i line) 0 0) ≡ false
 begins_with_word line i e =
     let h = found not_space line i e in
@@ -111,6 +119,7 @@ no_words : (spaces : List ℕ) → list_all is_space spaces ≡ true → words s
 no_words [] h = refl
 no_words (b ∷ spaces) h = let e = both (is_space b) (list_all is_space spaces) h in rw e.0 (no_words spaces e.1)
 
+-- where none is, there is no word
 pub word_missed : (line : List ℕ) → position not_space line ≡ None → words line ≡ []
 word_missed line e = no_words line (only_spaces line (all_lack not_space line (missed not_space line e)))
 

@@ -2,11 +2,9 @@
 use Rattle.std.proofs.Common.{◌≡◌, ◌↔◌, ℕ, suc, ◌<◌, ◌-◌, Bool, true, false, not, ◌&&◌, ◌||◌, cond, nat_eq, if◌then◌else◌, IsTrue, List, [], ◌∷◌, ◌++◌, map, filter, length, slice_index, refl, sym, ap, subst, ◌∙◌, append_assoc, length-append, arith}
 use Rattle.std.proofs.lemmas.Bool.Decides.{nat_tests}
 use Rattle.std.proofs.lemmas.Bool.{eqb-true}
-use Rattle.std.proofs.lemmas.Grind.{flat_map-append}
-use Rattle.std.proofs.lemmas.List.{append-nil}
 use Rattle.std.proofs.lemmas.List.Splits.{join_with_byte-slice_split}
 use Rattle.std.specs.List.{onto_first, join_with_byte, flat_map, list_all, AllByRecursion}
-use Rattle.text_lines.specs.Lines.{Row, is_feed, is_space, is_nonempty, lines, fields, words, line_of, text_of, spaced, ends_every_line, is_visible, is_word, AreWords, is_field, AreFields}
+use Rattle.text_lines.specs.Lines.{Row, is_feed, is_space, is_nonempty, lines, fields, words, line_of, text_of, ends_every_line, is_visible, is_word, AreWords, is_field, AreFields}
 use Rattle.text_lines.proofs.Lists.{both, and_true, not_true, not_false, list_all-join, list_all-weaker, AllByRecursion-map}
 
 -- ---- bytes
@@ -24,6 +22,7 @@ in_field b = not_space b && not_feed b
 visible_in_field : (b : ℕ) → is_visible b ≡ true → in_field b ≡ true
 visible_in_field b h = grind (arith, nat_tests)
 
+-- a field has no line feed and no space
 pub lacks_feeds : (field : List ℕ) → is_field field ≡ true → list_all not_feed field ≡ true
 lacks_feeds = list_all-weaker in_field not_feed (λ b h. (both (not_space b) (not_feed b) h).1)
 
@@ -32,14 +31,17 @@ lacks_spaces = list_all-weaker in_field not_space (λ b h. (both (not_space b) (
 
 -- ---- a line and its fields
 
+-- a part without spaces, and a space behind it, is the first field
 pub fields_first : (field rest : List ℕ) → list_all not_space field ≡ true → fields (field ++ 32 ∷ rest) ≡ field ∷ fields rest
 fields_first [] rest h = refl
 fields_first (b ∷ field) rest h = let e = both (not_space b) (list_all not_space field) h in rw (not_true (is_space b) e.0) (ap (onto_first b) (fields_first field rest e.1))
 
+-- a line without spaces is its one field
 pub fields_last : (field : List ℕ) → list_all not_space field ≡ true → fields field ≡ field ∷ []
 fields_last [] h = refl
 fields_last (b ∷ field) h = let e = both (not_space b) (list_all not_space field) h in rw (not_true (is_space b) e.0) (ap (onto_first b) (fields_last field e.1))
 
+-- fields come back from a row's line, and so do words
 pub fields_again : (row : Row) → AreFields row → fields (join_with_byte 32 row) ≡ row
 fields_again [] h = absurd (omega arith)
 fields_again (w ∷ []) h = fields_last w (lacks_spaces w h.1.0)
@@ -64,10 +66,12 @@ words_again (w ∷ row) h = ap (filter is_nonempty) (fields_again (w ∷ row) (o
 
 -- ---- a text and its lines
 
+-- a part without line feeds, and a line feed behind it, is the first line
 pub lines_first : (line rest : List ℕ) → list_all not_feed line ≡ true → lines (line ++ 10 ∷ rest) ≡ line ∷ lines rest
 lines_first [] rest h = refl
 lines_first (b ∷ line) rest h = let e = both (not_feed b) (list_all not_feed line) h in rw (not_true (is_feed b) e.0) (ap (onto_first b) (lines_first line rest e.1))
 
+-- a text without line feeds is its one line
 pub lines_last : (b : ℕ) (line : List ℕ) → list_all not_feed (b ∷ line) ≡ true → lines (b ∷ line) ≡ (b ∷ line) ∷ []
 lines_last b [] h = let e = both (not_feed b) true h in rw (not_true (is_feed b) e.0) refl
 lines_last b (c ∷ line) h = let e = both (not_feed b) (list_all not_feed (c ∷ line)) h in rw (not_true (is_feed b) e.0) (ap (onto_first b) (lines_last c line e.1))
@@ -94,6 +98,7 @@ all_words_are_fields : (rows : List Row) → AllByRecursion AreWords rows → Al
 all_words_are_fields [] h = tt
 all_words_are_fields (row ∷ rows) h = (words_are_fields row h.0, all_words_are_fields rows h.1)
 
+-- rows come back from their text's lines, by words and by fields
 pub words_come_back : (rows : List Row) → AllByRecursion AreWords rows → map words (lines (text_of rows)) ≡ rows
 words_come_back rows h = ap (map words) (lines_again rows (all_words_are_fields rows h)) ∙ words_of_lines rows h
 
@@ -146,6 +151,7 @@ fields_are_fields (b ∷ line) h = let e = both (not_feed b) (list_all not_feed 
   at true e k h = rw e (omega arith, (refl, h.1))
   at false e k h = rw e (onto_fields b (fields line) (and_true (not (is_space b)) (not_feed b) (not_false (is_space b) e) k) h)
 
+-- what is read of any text is rows of fields
 pub read_are_fields : (text : List ℕ) → AllByRecursion AreFields (map fields (lines text))
 read_are_fields text = AllByRecursion-map (λ line. IsTrue (list_all not_feed line)) AreFields fields fields_are_fields (lines text) (lines_lack_feeds text)
 

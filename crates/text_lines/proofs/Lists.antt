@@ -25,6 +25,7 @@ pub list_all-weaker : {X : Type 0} (p q : X → Bool) → ((x : X) → p x ≡ t
 list_all-weaker p q f [] h = refl
 list_all-weaker p q f (x ∷ xs) h = let e = both (p x) (list_all p xs) h in and_true (q x) (list_all q xs) (f x e.0) (list_all-weaker p q f xs e.1)
 
+-- what holds of each element of two lists holds of both in a row, and of a map where the function keeps it
 pub AllByRecursion-append : {X : Type 0} (P : X → Type 0) (xs ys : List X) → AllByRecursion P xs → AllByRecursion P ys → AllByRecursion P (xs ++ ys)
 AllByRecursion-append P [] ys h k = k
 AllByRecursion-append P (x ∷ xs) ys h k = (h.0, AllByRecursion-append P xs ys h.1 k)

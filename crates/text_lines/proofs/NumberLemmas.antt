@@ -17,6 +17,7 @@ use Rattle.text_lines.proofs.Lists.{both, and_true, list_all-weaker}
 abbrev pub all_digits : List ℕ → Bool
 all_digits word = list_all (λ b. is_ascii_digit b) word
 
+-- digits and their value in the words of std's laws on parsing
 pub own_digits : IsNumeralModel (λ ds. all_digits ds ≡ true) (digits_value 10)
 own_digits = numerals_by_value _ (search rules)
 
@@ -35,6 +36,7 @@ some_from_length (b ∷ word) h = refl
 
 -- ---- what parsing gives
 
+-- digits are text, and parsing them gives their value where it is below the limit
 pub digits_text : (bs : List ℕ) → all_digits bs ≡ true → IsUtf8 bs
 digits_text bs h = IsUtf8-from_ascii bs (IsAscii-from_digits bs (own_digits.to bs h))
 
@@ -57,6 +59,7 @@ digits_give {E} bs (Err y) p h =
 
 -- ---- the decimal digits of a number
 
+-- the decimal digits of a number are digits of that value
 pub decimal_digits : (n : ℕ) → n < 2 ^ 64 → all_digits (decimal n) ≡ true
 decimal_digits n h = digits_decimal own_digits n h
 
@@ -101,6 +104,7 @@ is_some_number word n e = at (is_number word) (digits_value 10 word) e where
   at true v e = (refl, cc)
   at false v e = cc
 
+-- the number is below the limit, and the word that says it is a word
 pub number_below : (word : List ℕ) (n : ℕ) → number_of word ≡ Some n → n < 2 ^ 64
 number_below word n e =
     let h = is_some_number word n e in
@@ -119,6 +123,7 @@ number_word word n e =
 
 -- ---- the plain form
 
+-- the plain form by what the word says, and what it keeps
 pub plain_number : (word : List ℕ) (n : ℕ) → number_of word ≡ Some n → plain_word word ≡ decimal n
 plain_number word n e = ap (λ (o : Option ℕ). unwrap_or (option_map decimal o) word) e
 

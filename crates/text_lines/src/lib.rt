@@ -1,5 +1,6 @@
 //! Texts made of lines, lines of words, and words that are numbers: the bottom of job text and reports.
-//! Reading cuts slices and copies nothing; writing appends to a vector of bytes; `laws` says how the two agree.
+//! Reading cuts slices and copies nothing; writing appends to a vector of bytes; `laws` says how
+//! the two agree.
 #![tactic(auto)]
 
 pub mod laws;
