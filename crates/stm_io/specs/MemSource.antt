@@ -2,13 +2,19 @@
 use Rattle.std.specs.Prelude.{ℕ, List, Contains, drop, length, min}
 use Rattle.stm_io.specs.Faults.{next_count}
 
--- the bytes left, the most that a call gives, the numbers of the calls that fail, and how many calls and faults there were
+-- the bytes left, the most that a call moves, the numbers of the calls that fail,
+-- and how many calls and faults there were
 pub record SourceState : Type 0 where
   pub left : List ℕ
   pub at_most : ℕ
   pub failing : List ℕ
   pub calls : ℕ
   pub faults : ℕ
+
+-- a source before its first call
+abbrev pub first_state : List ℕ → ℕ → List ℕ → SourceState
+first_state bytes at_most failing =
+    record { left = bytes; at_most = at_most; failing = failing; calls = 0; faults = 0 }
 
 -- The next call is a listed one.
 abbrev pub FailsNext : SourceState → Type 0
