@@ -2,7 +2,7 @@
 use Rattle.std.specs.Prelude.{◌⊎◌, ◌++◌, ◌-◌, ◌<◌, ◌≤◌, ℕ, List, [], Contains, length, min}
 use Rattle.stm_io.specs.Faults.{next_count}
 
--- the bytes held, the most that may be, the most that a call takes, the numbers of the calls that fail,
+-- the bytes held, how many may be, the most that a call takes, the numbers of the calls that fail,
 -- and how many calls and faults there were
 pub record SinkState : Type 0 where
   pub held : List ℕ

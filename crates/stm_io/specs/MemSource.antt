@@ -22,7 +22,7 @@ FailsNext s = Contains s.failing (next_count s.calls)
 
 -- how many bytes a call moves into a slice of this length
 abbrev pub moved_count : SourceState → ℕ → ℕ
-moved_count s room = min room (min s.at_most (length s.left))
+moved_count s asked = min asked (min s.at_most (length s.left))
 
 -- the source after a call that moved n bytes
 abbrev pub after_read : SourceState → ℕ → SourceState
