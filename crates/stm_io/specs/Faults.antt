@@ -16,4 +16,5 @@ pub record CountsFaults {T E : Type 0} (before now : ℕ) (result : Result T E) 
 
 -- The count rose by one where the call failed, and is the same where it didn't.
 abbrev pub CountsByOne : {T E : Type 0} → ℕ → ℕ → Result T E → Type 0
-CountsByOne before now result = MatchResult result (λ _. now ≡ before) (λ _. now ≡ next_count before)
+CountsByOne before now result =
+    MatchResult result (λ _. now ≡ before) (λ _. now ≡ next_count before)

@@ -1,5 +1,5 @@
 //! A source and a sink over memory, which give and take in pieces and fail at listed calls.
-ghost use Rattle.std.specs.Prelude.{◌≡◌, ◌++◌, ◌<◌, ◌≤◌, ◌↔◌, [], length, drop, take, IfOk, IsErr, OnErr, Some};
+ghost use Rattle.std.specs.Prelude.{◌≡◌, ◌++◌, ◌<◌, ◌≤◌, ◌↔◌, length, drop, take, IfOk, IsErr, OnErr, Some};
 ghost use Rattle.std.specs.Io.{ReadsAtMost, WritesAtMost};
 ghost use Rattle.std.specs.Io.KnownBytes.{ReadConsumes, WriteAppends};
 ghost use Rattle.stm_io.specs.Faults.{CountsFaults};
@@ -35,16 +35,24 @@ impl Model for MemSource {
 
     ghost Value = { SourceState };
 
-    ghost view = { λ s. record { left = drop s.at s.bytes.items; at_most = s.at_most; failing = s.failing.items; calls = s.calls; faults = s.faults } };
+    ghost view = { λ s. record {
+      left = drop s.at s.bytes.items;
+      at_most = s.at_most;
+      failing = s.failing.items;
+      calls = s.calls;
+      faults = s.faults;
+    } };
 
     ghost invariant = { λ s. (s.at ≤ length s.bytes.items) × (1 ≤ s.at_most) };
 }
 
 impl MemSource {
+    ghost use Rattle.stm_io.specs.MemSource.{first_state};
+
     /// A source of these bytes that gives at most `at_most` at a call.
     pub fn new(bytes: Vec<u8>, at_most: usize, failing: Vec<u64>) -> MemSource
         requires { 1 ≤ at_most }
-        ensures { result ≡ record { left = bytes.items; at_most = at_most; failing = failing.items; calls = 0; faults = 0 } }
+        ensures { result ≡ first_state bytes.items at_most failing.items }
     {
         MemSource {
             bytes,
@@ -108,12 +116,22 @@ impl Model for MemSink {
 
     ghost Value = { SinkState };
 
-    ghost view = { λ s. record { held = s.bytes.items; room = s.room; at_most = s.at_most; failing = s.failing.items; calls = s.calls; faults = s.faults } };
+    ghost view = { λ s. record {
+      held = s.bytes.items;
+      room = s.room;
+      at_most = s.at_most;
+      failing = s.failing.items;
+      calls = s.calls;
+      faults = s.faults;
+    } };
 
-    ghost invariant = { λ s. (length s.bytes.items ≤ s.room) × (s.room ≤ vec_capacity s.bytes) × (1 ≤ s.at_most) };
+    ghost invariant = { λ s.
+        (length s.bytes.items ≤ s.room) × (s.room ≤ vec_capacity s.bytes) × (1 ≤ s.at_most) };
 }
 
 impl MemSink {
+    ghost use Rattle.stm_io.specs.MemSink.{first_state};
+
     /// A sink that holds at most `room` bytes, for which memory is taken here, and takes at most
     /// `at_most` at a call.
     pub fn new(
@@ -123,7 +141,7 @@ impl MemSink {
         failing: Vec<u64>,
     ) -> Result<MemSink, Memory>
         requires { 1 ≤ at_most }
-        ensures { IfOk result (λ sink. sink ≡ record { held = []; room = room; at_most = at_most; failing = failing.items; calls = 0; faults = 0 }) }
+        ensures { IfOk result (λ sink. sink ≡ first_state room at_most failing.items) }
     {
         let bytes = Vec::with_capacity(alloc, room)?;
         Ok(MemSink {

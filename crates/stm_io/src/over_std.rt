@@ -32,9 +32,10 @@ impl<R: Read> Source for StdSource<R> {
 
     fn read(&mut self, into: &mut [u8]) -> Result<usize, Failed>
         ensures bound { ReadsAtMost result into.new }
-        ensures bytes { ReadConsumes (R.remaining (reader_of self.old)) (R.remaining (reader_of self.new)) result into.new }
+        ensures bytes { ReadConsumes
+            (R.remaining (reader_of self.old)) (R.remaining (reader_of self.new)) result into.new }
         ensures cause { CountsFaults (read_faults self.old) (read_faults self.new) result }
-        ensures count { CountsByOne (read_faults self.old) (read_faults self.new) result }
+        ensures by_one { CountsByOne (read_faults self.old) (read_faults self.new) result }
     {
         match self.reader.read(into) {
             Ok(count) => Ok(count),
@@ -46,8 +47,8 @@ impl<R: Read> Source for StdSource<R> {
     }
 }
 
-/// A writer with a count of its errors, and of the writes of a piece that took nothing. It tells its
-/// bytes where the writer does. It flushes nothing, so the writer has to keep nothing back.
+/// A writer with a count of its errors and of the pieces of which it took nothing. It tells its bytes
+/// where the writer does. Nothing is flushed, so the writer is one that keeps nothing back.
 #[derive(Drop)]
 pub struct StdSink<W> {
     writer: W,
@@ -71,9 +72,10 @@ impl<W: Write> Sink for StdSink<W> {
     fn write(&mut self, bytes: &[u8]) -> Result<usize, Failed>
         ensures bound { WritesAtMost result bytes.now }
         ensures some { 0 < length bytes.now → IfOk result (λ n. 1 ≤ n) }
-        ensures bytes { WriteAppends (W.contents (writer_of self.old)) (W.contents (writer_of self.new)) result bytes.now }
+        ensures bytes { WriteAppends
+            (W.contents (writer_of self.old)) (W.contents (writer_of self.new)) result bytes.now }
         ensures cause { CountsFaults (write_faults self.old) (write_faults self.new) result }
-        ensures count { CountsByOne (write_faults self.old) (write_faults self.new) result }
+        ensures by_one { CountsByOne (write_faults self.old) (write_faults self.new) result }
     {
         match self.writer.write(bytes) {
             Ok(count) if count > 0 || bytes.is_empty() => Ok(count),

@@ -1,4 +1,6 @@
 //! What the calls do on a few texts, where memory is ample.
+ghost use Rattle.std.specs.Prelude.{◌≤◌};
+
 use super::*;
 use std::alloc::Global;
 use std::io;

@@ -8,8 +8,10 @@ ghost use Rattle.stm_io.specs.declared.whole.ReadAllFault.TheVariants.{ReadFault
 use crate::{Failed, Sink, Source};
 use std::alloc::{AllocError, Global};
 
+// The most bytes that a text may have.
 const MOST_BYTES: usize = 1_048_576;
 
+// How many bytes a read asks for.
 const PIECE: usize = 4096;
 
 /// Why a source wasn't read to its end.
@@ -46,17 +48,23 @@ impl From<Failed> for WriteFault {
     }
 }
 
-/// All the bytes that the source has left. A text of more than 1,048,576 is given up as too long at
-/// the first byte past them.
+/// All the bytes that the source has left, at most 1,048,576. The first byte past these ends the
+/// reading.
 pub fn read_all<S: Source>(alloc: Global, source: &mut S) -> Result<Vec<u8>, ReadAllFault>
-    ensures all { IfOk result (λ bytes. TookAll (S.left source.old) (S.left source.new) bytes.items) }
+    ensures all { IfOk result (λ bytes.
+        TookAll (S.left source.old) (S.left source.new) bytes.items) }
     ensures within { IfOk result (λ bytes. vec_len bytes ≤ most_bytes) }
 
-    ensures too_long { IsErrOf result ReadAllFault.TooLong → TookCount (S.left source.old) (S.left source.new) (most_bytes + 1) }
-    ensures read_fault { IsErrOf result ReadAllFault.ReadFault → TookAtMost (S.left source.old) (S.left source.new) most_bytes }
-    ensures memory { IsErrOf result ReadAllFault.Memory → TookAtMost (S.left source.old) (S.left source.new) most_bytes }
+    // How much of it was taken where that isn't all.
+    ensures too_long { IsErrOf result ReadAllFault.TooLong
+        → TookCount (S.left source.old) (S.left source.new) (most_bytes + 1) }
+    ensures read_fault { IsErrOf result ReadAllFault.ReadFault
+        → TookAtMost (S.left source.old) (S.left source.new) most_bytes }
+    ensures memory { IsErrOf result ReadAllFault.Memory
+        → TookAtMost (S.left source.old) (S.left source.new) most_bytes }
 
-    ensures cause { IsErrOf result ReadAllFault.ReadFault → Rose (S.faults source.old) (S.faults source.new) }
+    ensures cause { IsErrOf result ReadAllFault.ReadFault
+        → Rose (S.faults source.old) (S.faults source.new) }
     ensures never_falls { S.faults source.old ≤ S.faults source.new }
 {
     let mut piece = [0; PIECE];
@@ -78,12 +86,15 @@ fn read_more<S: Source>(
     requires { vec_len bytes.old ≤ most_bytes }
     ensures count { IfOk result (λ n. vec_len bytes.new ≡ vec_len bytes.old + n) }
     ensures within { OnOk result (vec_len bytes.new ≤ most_bytes + 1) }
-    ensures more { OnOk result ((more : List ℕ) × (bytes.new.items ≡ bytes.old.items ++ more) × Consumes (S.left source.old) (S.left source.new) more) }
+    ensures more { OnOk result ((more : List ℕ)
+        × (bytes.new.items ≡ bytes.old.items ++ more)
+        × Consumes (S.left source.old) (S.left source.new) more) }
     ensures end { IfOk result (λ n. n ≡ 0 → IsAtEnd (S.left source.new)) }
 
     ensures kept { OnErr result (Keeps (S.left source.old) (S.left source.new)) }
     ensures not_too_long { result ≢ Err ReadAllFault.TooLong }
-    ensures cause { IsErrOf result ReadAllFault.ReadFault → Rose (S.faults source.old) (S.faults source.new) }
+    ensures cause { IsErrOf result ReadAllFault.ReadFault
+        → Rose (S.faults source.old) (S.faults source.new) }
     ensures never_falls { S.faults source.old ≤ S.faults source.new }
 {
     let room = PIECE.min(MOST_BYTES + 1 - bytes.len());
@@ -96,7 +107,8 @@ fn read_more<S: Source>(
 /// Writes all the bytes, and takes no memory.
 pub fn write_whole<K: Sink>(sink: &mut K, bytes: &[u8]) -> Result<(), WriteFault>
     ensures all { OnOk result (Appends (K.held sink.old) (K.held sink.new) bytes.now) }
-    ensures front { OnErr result (AppendedProperFront (K.held sink.old) (K.held sink.new) bytes.now) }
+    ensures front { OnErr result
+        (AppendedProperFront (K.held sink.old) (K.held sink.new) bytes.now) }
     ensures cause { OnErr result (Rose (K.faults sink.old) (K.faults sink.new)) }
     ensures never_falls { K.faults sink.old ≤ K.faults sink.new }
 {
