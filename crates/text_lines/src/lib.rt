@@ -8,7 +8,7 @@ mod read;
 mod write;
 
 pub use read::{cut_field, cut_line, cut_word, ends_every_line, number_of};
-pub use write::{Memory, end_line, put, put_number, put_number_word, put_word};
+pub use write::{end_line, put, put_number, put_number_word, put_word};
 
 #[cfg(test)]
 mod tests;
