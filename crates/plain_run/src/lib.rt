@@ -2,7 +2,9 @@
 #![tactic(auto)]
 
 mod machine;
+mod opening;
 mod turns;
 
 pub use machine::{Ran, run_script};
+pub use opening::opening_contents;
 pub use turns::run_in_turn;

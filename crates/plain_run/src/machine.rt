@@ -173,11 +173,15 @@ impl Machine {
             Statement::Read { reg, cell } => self.set_register(*reg, self.ref_at(*cell)),
             Statement::Write { cell, value } => self.set_ref(*cell, self.value_of(*value)),
             Statement::Add { reg, value } => {
-                let sum = self.value_of(Operand::Reg(*reg)).wrapping_add(self.value_of(*value));
+                let sum = self
+                    .value_of(Operand::Reg(*reg))
+                    .wrapping_add(self.value_of(*value));
                 self.set_register(*reg, sum);
             }
             Statement::Sub { reg, value } => {
-                let rest = self.value_of(Operand::Reg(*reg)).wrapping_sub(self.value_of(*value));
+                let rest = self
+                    .value_of(Operand::Reg(*reg))
+                    .wrapping_sub(self.value_of(*value));
                 self.set_register(*reg, rest);
             }
             Statement::Print { value } => self.print(self.value_of(*value))?,
