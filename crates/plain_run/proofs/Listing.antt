@@ -1,5 +1,5 @@
 -- What is listed so far, from one script to the next.
-use Rattle.std.proofs.Common.{◌≡◌, ◌+◌, ◌-◌, ◌<◌, ◌≤◌, ℕ, Bool, true, false, nat_lt, nat_le, nat_eq, IsTrue, cond, if◌then◌else◌, List, [], ◌∷◌, ◌++◌, length, map, refl, ap, sym, subst, ◌∙◌, arith, length-append, ◌≢◌, add_comm}
+use Rattle.std.proofs.Common.{◌≡◌, ◌+◌, ◌-◌, ◌<◌, ◌≤◌, ℕ, Bool, true, false, nat_lt, nat_le, nat_eq, IsTrue, cond, if◌then◌else◌, List, [], ◌∷◌, ◌++◌, length, map, refl, ap, sym, subst, ◌∙◌, arith, length-append, ◌≢◌, ◌⊎◌, inl, inr, add_comm}
 use Rattle.std.specs.Bool.{MatchBool}
 use Rattle.std.specs.List.{AllByRecursion, filter, range_with_len}
 use Rattle.std.proofs.lemmas.Bool.Decides.{nat_tests}
@@ -213,3 +213,64 @@ Listed-with_run job settings worker ran progress listed named plain unchanged cl
       in_turns = in_turns job settings worker ran progress o ready;
       contents = contents job settings worker ran progress o ready;
     }
+
+-- ---- workers
+
+-- nothing has run yet
+pub Listed-start : (job : Job) (settings : Settings) → Listed job settings 1 0 (record { rows = []; writers = 0; contents = opening_contents job })
+Listed-start job settings = record {
+  in_order = tt;
+  writers = refl;
+  stamps = refl;
+  positions = tt;
+  named = tt;
+  so_far = tt;
+  before = λ other from less. absurd (omega arith);
+  current = refl;
+  rows = tt;
+  in_turns = tt;
+  contents = refl;
+}
+
+split_last : (a b : ℕ) → a < b + 1 → (a < b) ⊎ (a ≡ b)
+split_last a b less = grind arith
+
+-- where all scripts of a worker have run, the next worker begins
+pub Listed-next_worker : (job : Job) (settings : Settings) (worker ran : ℕ) (progress : Progress) → ran ≡ length (scripts_of job worker)
+    → Listed job settings worker ran progress → Listed job settings (worker + 1) 0 progress
+Listed-next_worker job settings worker ran progress all l =
+    let within : AllByRecursion (λ row. row.worker ≤ worker) progress.rows =
+        each_weaker (λ row. IsTrue (by row.worker worker (nat_le row.number ran))) (λ row. row.worker ≤ worker) (λ row. by-le row.worker worker (nat_le row.number ran)) progress.rows l.so_far in
+    record {
+      in_order = l.in_order;
+      writers = l.writers;
+      stamps = l.stamps;
+      positions = l.positions;
+      named = l.named;
+      so_far =
+        each_weaker (λ row. row.worker ≤ worker) (λ row. IsTrue (by row.worker (worker + 1) (nat_le row.number 0))) (λ row le. by-less row.worker (worker + 1) (nat_le row.number 0) (omega arith)) progress.rows within;
+      before = λ other from less. elim (split_last other worker less) [ inl lower ↦ l.before other from lower | inr same ↦ subst (ListsScripts job progress.rows) (sym same) (l.current ∙ ap (λ (k : ℕ). range_with_len 1 k) all) ];
+      current = ap (λ (some : List Row). map (λ row. row.number) some)
+        (filter_none (λ row. nat_eq row.worker (worker + 1)) progress.rows
+        (each_weaker (λ row. row.worker ≤ worker) (λ row. nat_eq row.worker (worker + 1) ≡ false) (λ row le. grind (arith, nat_tests)) progress.rows within));
+      rows = l.rows;
+      in_turns = l.in_turns;
+      contents = l.contents;
+    }
+
+-- where all workers have run, the listing replays the job
+pub Replays-all_workers : (job : Job) (settings : Settings) (worker : ℕ) (progress : Progress) → length job.workers < worker → Listed job settings worker 0 progress
+    → Replays job settings (record { rows = progress.rows; rolled = []; blocked = []; worn = []; contents = progress.contents })
+Replays-all_workers job settings worker progress past l = record {
+  in_order = l.in_order;
+  stamps = l.stamps ∙ ap (λ (k : ℕ). range_with_len 1 k) l.writers;
+  positions = subst (λ (k : ℕ). AllByRecursion (λ row. row.position ≤ k) progress.rows) l.writers l.positions;
+  named = l.named;
+  complete = λ worker' from to. l.before worker' from (omega arith);
+  rows = l.rows;
+  in_turns = l.in_turns;
+  rolled = refl;
+  blocked = refl;
+  worn = refl;
+  contents = l.contents ∙ ap (λ (k : ℕ). contents_after job progress.rows k) l.writers;
+}
