@@ -39,6 +39,12 @@ rows_of-push_own rows row =
 
 -- ---- one row more
 
+pub writers_after-le : (o : Outcome) (n : ℕ) → writers_after o n ≤ n + 1
+writers_after-le o n = by_kind o.after.wrote where
+  by_kind : (wrote : Bool) → (if wrote then n + 1 else n) ≤ n + 1
+  by_kind true = omega arith
+  by_kind false = omega arith
+
 -- the row of a script whose run goes straight on: it wrote, or it left the contents
 pub record Ready (job : Job) (settings : Settings) (worker ran : ℕ) (progress : Progress) (o : Outcome) : Type 0 where
   pub listed : Listed job settings worker ran progress
