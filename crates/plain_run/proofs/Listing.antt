@@ -1,20 +1,18 @@
 -- What is listed so far, from one script to the next.
 use Rattle.std.proofs.Common.{◌≡◌, ◌+◌, ◌-◌, ◌<◌, ◌≤◌, ℕ, Bool, true, false, nat_lt, nat_le, nat_eq, IsTrue, cond, if◌then◌else◌, List, [], ◌∷◌, ◌++◌, length, map, refl, ap, sym, subst, ◌∙◌, arith, length-append, ◌≢◌, ◌⊎◌, inl, inr, add_comm}
 use Rattle.std.specs.Bool.{MatchBool}
-use Rattle.std.specs.List.{AllByRecursion, filter, range_with_len}
+use Rattle.std.specs.List.{AllByRecursion, range_with_len}
 use Rattle.std.proofs.lemmas.Bool.Decides.{nat_tests}
 use Rattle.std.proofs.lemmas.List.{append-nil, map-append}
 use Rattle.std.proofs.lemmas.List.Elements.{filter-append}
 use Rattle.stm_model.specs.declared.settings.Settings.{Settings}
 use Rattle.ledger_model.specs.declared.job.Contents.{Contents}
 use Rattle.ledger_model.specs.declared.job.Job.{Job}
-use Rattle.ledger_model.specs.declared.listing.Listing.{Listing}
 use Rattle.ledger_model.specs.declared.listing.Row.{Row}
-use Rattle.ledger_model.specs.declared.script.Statement.{Statement}
 use Rattle.ledger_model.specs.Contents.{opening_contents}
 use Rattle.ledger_model.specs.Order.{by, stands_before}
 use Rattle.ledger_model.specs.Replays.{writers_of, rows_of, run_of, scripts_of, block_of, contents_after, NamesScript, ListsScripts, ComesAfter, Tells, TellsWriter, TellsReader, TellsRow, InOrder, InTurns, Replays}
-use Rattle.ledger_model.specs.Run.{Outcome, End, Kept, run}
+use Rattle.ledger_model.specs.Run.{Outcome, End, run}
 use Rattle.ledger_model.specs.Settle.{Settled, Commits, OnlyReads, Spends, settle, completing, handler_runs}
 use Rattle.plain_run.specs.declared.turns.Progress.{Progress}
 use Rattle.plain_run.specs.Listed.{Listed, writers_after, row_of, with_run}
@@ -85,8 +83,8 @@ module _ (job : Job) (settings : Settings) (worker ran : ℕ) (progress : Progre
       (each_from_both (λ earlier. earlier.position ≤ progress.writers) (λ earlier. IsTrue (by earlier.worker worker (nat_le earlier.number ran)))
       (λ earlier. IsTrue (stands_before earlier row))
       (λ earlier le before.
-        by_position earlier.position progress.writers earlier.writer o.after.wrote _ le
-        (by-later earlier.worker worker (nat_le earlier.number ran) (nat_lt earlier.number (ran + 1)) (λ h. grind (arith, nat_tests)) before))
+      by_position earlier.position progress.writers earlier.writer o.after.wrote _ le
+      (by-later earlier.worker worker (nat_le earlier.number ran) (nat_lt earlier.number (ran + 1)) (λ h. grind (arith, nat_tests)) before))
       progress.rows l.positions l.so_far)
 
   writers : n ≡ length (writers_of rows)
@@ -246,7 +244,7 @@ pub Listed-next_worker : (job : Job) (settings : Settings) (worker ran : ℕ) (p
     → Listed job settings worker ran progress → Listed job settings (worker + 1) 0 progress
 Listed-next_worker job settings worker ran progress all l =
     let within : AllByRecursion (λ row. row.worker ≤ worker) progress.rows =
-        each_weaker (λ row. IsTrue (by row.worker worker (nat_le row.number ran))) (λ row. row.worker ≤ worker) (λ row. by-le row.worker worker (nat_le row.number ran)) progress.rows l.so_far in
+    each_weaker (λ row. IsTrue (by row.worker worker (nat_le row.number ran))) (λ row. row.worker ≤ worker) (λ row. by-le row.worker worker (nat_le row.number ran)) progress.rows l.so_far in
     record {
       in_order = l.in_order;
       writers = l.writers;
@@ -254,11 +252,11 @@ Listed-next_worker job settings worker ran progress all l =
       positions = l.positions;
       named = l.named;
       so_far =
-        each_weaker (λ row. row.worker ≤ worker) (λ row. IsTrue (by row.worker (worker + 1) (nat_le row.number 0))) (λ row le. by-less row.worker (worker + 1) (nat_le row.number 0) (omega arith)) progress.rows within;
+          each_weaker (λ row. row.worker ≤ worker) (λ row. IsTrue (by row.worker (worker + 1) (nat_le row.number 0))) (λ row le. by-less row.worker (worker + 1) (nat_le row.number 0) (omega arith)) progress.rows within;
       before = λ other from less. elim (split_last other worker less) [ inl lower ↦ l.before other from lower | inr same ↦ subst (ListsScripts job progress.rows) (sym same) (l.current ∙ ap (λ (k : ℕ). range_with_len 1 k) all) ];
       current = ap (λ (some : List Row). map (λ row. row.number) some)
-        (filter_none (λ row. nat_eq row.worker (worker + 1)) progress.rows
-        (each_weaker (λ row. row.worker ≤ worker) (λ row. nat_eq row.worker (worker + 1) ≡ false) (λ row le. grind (arith, nat_tests)) progress.rows within));
+          (filter_none (λ row. nat_eq row.worker (worker + 1)) progress.rows
+          (each_weaker (λ row. row.worker ≤ worker) (λ row. nat_eq row.worker (worker + 1) ≡ false) (λ row le. grind (arith, nat_tests)) progress.rows within));
       rows = l.rows;
       in_turns = l.in_turns;
       contents = l.contents;

@@ -1,5 +1,5 @@
 -- A row that is put at the end stands behind those before it.
-use Rattle.std.proofs.Common.{◌≡◌, ◌+◌, ◌<◌, ◌≤◌, ℕ, Bool, true, false, nat_lt, nat_le, nat_eq, IsTrue, if◌then◌else◌, List, [], ◌∷◌, ◌++◌, refl, ap, sym, subst, ◌∙◌, arith}
+use Rattle.std.proofs.Common.{◌≡◌, ◌+◌, ◌<◌, ◌≤◌, ℕ, Bool, true, false, nat_lt, IsTrue, if◌then◌else◌, List, [], ◌∷◌, ◌++◌, refl, arith}
 use Rattle.std.specs.Bool.{MatchBool}
 use Rattle.std.specs.List.{AllByRecursion}
 use Rattle.std.proofs.lemmas.Bool.Decides.{nat_tests}
@@ -47,7 +47,7 @@ in_turns_push rows row h workers after =
     let all : Row → Type 0 = λ earlier. AllByRecursion (λ other. other.worker < earlier.worker → ComesAfter earlier other) (rows ++ row ∷ []) in
     each_push all rows row
     (each_from_both within (λ earlier. earlier.worker ≤ row.worker) all
-      (λ earlier there le. each_push (λ other. other.worker < earlier.worker → ComesAfter earlier other) rows row there (λ less. absurd (omega arith))) rows h workers)
+    (λ earlier there le. each_push (λ other. other.worker < earlier.worker → ComesAfter earlier other) rows row there (λ less. absurd (omega arith))) rows h workers)
     (each_push (λ other. other.worker < row.worker → ComesAfter row other) rows row
-      (each_weaker (ComesAfter row) (λ other. other.worker < row.worker → ComesAfter row other) (λ other comes less. comes) rows after)
-      (λ less. absurd (omega arith)))
+    (each_weaker (ComesAfter row) (λ other. other.worker < row.worker → ComesAfter row other) (λ other comes less. comes) rows after)
+    (λ less. absurd (omega arith)))

@@ -1,5 +1,5 @@
 -- Scripts by name, and by their place in the job.
-use Rattle.std.proofs.Common.{◌≡◌, ◌+◌, ◌-◌, ◌<◌, ◌≤◌, ℕ, Some, false, List, [], drop, length, slice_get, slice_index_or, ap, sym, subst, ◌∙◌, arith}
+use Rattle.std.proofs.Common.{◌≡◌, ◌+◌, ◌-◌, ◌<◌, ◌≤◌, ℕ, Some, List, [], drop, length, slice_get, slice_index_or, ap, sym, subst, ◌∙◌, arith}
 use Rattle.std.specs.List.{sum_by}
 use Rattle.std.proofs.lemmas.List.Sums.{sum_by-drop_more}
 use Rattle.std.proofs.lemmas.Option.{get_or_from_slice_get, slice_get_within}
@@ -45,7 +45,7 @@ Listed-next_script job settings worker i j scripts script progress straight at_w
     } in
     subst (λ (ms : List Statement). Listed job settings worker (j + 1) (with_run worker (j + 1) ms progress)) block
     (Listed-with_run job settings worker j progress listed named (run-plain (block_of job worker (j + 1)) progress.contents goes_named)
-      (run-unchanged (block_of job worker (j + 1)) progress.contents goes_named) clock)
+    (run-unchanged (block_of job worker (j + 1)) progress.contents goes_named) clock)
 
 -- the scripts of the workers from here on
 pub script_count-drop : (job : Job) (i : ℕ) → i < length job.workers

@@ -1,12 +1,11 @@
 -- A straight script goes straight on: its run is kept, and nothing but registers, contents and prints changes.
-use Rattle.std.proofs.Common.{◌≡◌, ◌+◌, ◌^◌, ℕ, zero, suc, Bool, true, false, IsTrue, List, [], ◌∷◌, map, refl, ap, sym, subst, ◌∙◌}
+use Rattle.std.proofs.Common.{◌≡◌, ◌^◌, ℕ, zero, suc, Bool, false, IsTrue, List, [], ◌∷◌, map, refl, ap, sym, subst, ◌∙◌}
 use Rattle.std.specs.List.{AllByRecursion}
 use Rattle.ledger_model.specs.declared.job.Contents.{Contents}
 use Rattle.ledger_model.specs.declared.script.Statement.{Statement}
 use Rattle.ledger_model.specs.declared.script.Statement.TheOpen.{Statement-F}
 use Rattle.ledger_model.specs.declared.script.Statement.TheOpen as layer
-use Rattle.ledger_model.specs.declared.script.Statement.TheViews.{roll-Statement}
-use Rattle.ledger_model.specs.declared.script.Statement.TheFolds.{map-Statement, fold-Statement, fold-roll-Statement, ind-Statement}
+use Rattle.ledger_model.specs.declared.script.Statement.TheFolds.{map-Statement, fold-roll-Statement, ind-Statement}
 use Rattle.ledger_model.specs.Run.{State, Outcome, Meaning, Known, End, Kept, Failed, Retried, kept, and_then, in_turn, step, known, meaning, run_block, late_bodies, next_late, start, run}
 use Rattle.ledger_model.specs.Straight.{is_straight, straight_step}
 use Rattle.plain_run.specs.Plain.{IsPlain}

@@ -1,6 +1,5 @@
 -- What rows tell stays true when a row is put at the end.
-use Rattle.std.proofs.Common.{◌≡◌, ◌+◌, ◌-◌, ◌<◌, ◌≤◌, ℕ, Bool, true, false, cond, List, [], ◌∷◌, ◌++◌, length, take, refl, ap, sym, subst, ◌∙◌, arith, add-zero, length-append}
-use Rattle.std.specs.List.{filter}
+use Rattle.std.proofs.Common.{◌≡◌, ◌+◌, ◌-◌, ◌≤◌, ℕ, Bool, true, false, cond, List, [], ◌∷◌, ◌++◌, length, take, refl, ap, sym, subst, ◌∙◌, arith, add-zero, length-append}
 use Rattle.std.specs.Bool.{MatchBool}
 use Rattle.std.proofs.lemmas.List.{take-append-le, take_all, append-nil}
 use Rattle.std.proofs.lemmas.List.Elements.{filter-append}
@@ -47,7 +46,7 @@ contents_after-last job rows row n is drawn count =
     let opening : Contents = opening_contents job in
     let fits : length (writers ++ row ∷ []) ≤ n + 1 = simp length-append (omega arith) in
     let listed : take (n + 1) (writers_of (rows ++ row ∷ [])) ≡ writers ++ row ∷ [] =
-        ap (λ (more : List Row). take (n + 1) more) (writers_of-push_writer rows row is) ∙ take_all (n + 1) (writers ++ row ∷ []) fits in
+    ap (λ (more : List Row). take (n + 1) more) (writers_of-push_writer rows row is) ∙ take_all (n + 1) (writers ++ row ∷ []) fits in
     let before : writers ≡ take n writers = sym (take_all n writers (omega arith)) in
     ap (λ (more : List Row). after_writers job more opening) listed
     ∙ after_writers-push job writers row opening
@@ -69,14 +68,14 @@ tells-push job settings rows row earlier le =
     both_ways earlier.writer (TellsWriter job settings rows earlier) (TellsReader job settings rows earlier)
     (TellsWriter job settings (rows ++ row ∷ []) earlier) (TellsReader job settings (rows ++ row ∷ []) earlier)
     (λ writer.
-      let same = sym (contents_after-push job rows row (earlier.position - 1) (omega arith)) in
-      record {
-        tells = tells_alike job settings earlier Commits _ _ _ _ same refl writer.tells;
-        drawn = subst (λ (c : Contents). earlier.drawn ≤ allowance (run_of job earlier c).after) same writer.drawn;
-      })
+    let same = sym (contents_after-push job rows row (earlier.position - 1) (omega arith)) in
+    record {
+      tells = tells_alike job settings earlier Commits _ _ _ _ same refl writer.tells;
+      drawn = subst (λ (c : Contents). earlier.drawn ≤ allowance (run_of job earlier c).after) same writer.drawn;
+    })
     (λ reader.
-      let same = sym (contents_after-push job rows row earlier.position le) in
-      record {
-        tells = tells_alike job settings earlier OnlyReads _ _ _ _ same refl reader.tells;
-        drawn = reader.drawn;
-      })
+    let same = sym (contents_after-push job rows row earlier.position le) in
+    record {
+      tells = tells_alike job settings earlier OnlyReads _ _ _ _ same refl reader.tells;
+      drawn = reader.drawn;
+    })

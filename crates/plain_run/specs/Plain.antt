@@ -1,6 +1,6 @@
 -- What a run never does that goes straight on.
 use Rattle.std.specs.Prelude.{◌≡◌, []}
-use Rattle.ledger_model.specs.Run.{Outcome, End, Kept}
+use Rattle.ledger_model.specs.Run.{Outcome, Kept}
 
 -- The run is kept, and it has no handlers, no bodies put off and no allowance of blocks.
 pub record IsPlain (o : Outcome) : Type 0 where

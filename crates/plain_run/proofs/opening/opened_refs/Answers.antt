@@ -1,4 +1,4 @@
-use Rattle.std.proofs.Common.{◌≡◌, ◌<◌, ◌+◌, ℕ, List, length, arith}
+use Rattle.std.proofs.Common.{◌<◌, ℕ}
 use Rattle.std.proofs.lemmas.List.Elements.{All-from_recursion}
 use Rattle.plain_run.proofs.Openings.{openings_within}
 use Rattle.plain_run.proofs.opening.opened_refs.Goals as goal

@@ -1,12 +1,5 @@
-use Rattle.std.proofs.Common.{◌≡◌, ◌+◌, ◌<◌, List, [], length, drop, ap, sym, subst, ◌∙◌, arith}
-use Rattle.std.specs.List.{sum_by}
-use Rattle.ledger_model.specs.declared.job.Contents.{Contents}
-use Rattle.ledger_model.specs.declared.listing.Listing.{Listing}
-use Rattle.ledger_model.specs.declared.listing.Row.{Row}
-use Rattle.ledger_model.specs.Replays.{Replays}
-use Rattle.plain_run.specs.declared.turns.Progress.{Progress}
+use Rattle.std.proofs.Common.{◌+◌, ap, ◌∙◌, arith}
 use Rattle.plain_run.specs.Counts.{places_in}
-use Rattle.plain_run.specs.Listed.{Listed}
 use Rattle.plain_run.proofs.Listing.{Listed-start, Replays-all_workers}
 use Rattle.plain_run.proofs.Openings.{places_in-opening}
 use Rattle.plain_run.proofs.Scripts.{script_count-drop}
@@ -24,9 +17,9 @@ loop-index-preserved c = record {
   listed = c.in_ok-progress.ensures.listed;
   places = c.in_ok-progress.ensures.places;
   writers =
-    let left = script_count-drop c.args.job.now c.loop-index.index (omega arith) in
-    let more = c.in_ok-progress.ensures.writers in
-    omega arith;
+      let left = script_count-drop c.args.job.now c.loop-index.index (omega arith) in
+      let more = c.in_ok-progress.ensures.writers in
+      omega arith;
 }
 
 pub returns : goal.returns

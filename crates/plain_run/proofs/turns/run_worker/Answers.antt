@@ -1,4 +1,4 @@
-use Rattle.std.proofs.Common.{◌≡◌, ◌+◌, ℕ, List, length, ap, sym, subst, ◌∙◌, arith}
+use Rattle.std.proofs.Common.{◌≡◌, ◌+◌, List, length, ap, sym, subst, ◌∙◌, arith}
 use Rattle.ledger_model.specs.declared.script.Script.{Script}
 use Rattle.ledger_model.specs.Replays.{scripts_of}
 use Rattle.ledger_model.specs.Run.{run}
@@ -13,7 +13,7 @@ loop-index-preserved c =
     let more = writers_after-le (run c.at-script.result.now.block c.loop-index.progress.contents) c.loop-index.progress.writers in
     record {
       listed = subst (λ (next : Progress). Listed c.args.job.now c.args.settings.now c.args.worker (c.loop-index.index + 1) next) (sym c.in_ok-progress.ensures.next)
-        (Listed-next_script c.args.job.now c.args.settings.now c.args.worker _ c.loop-index.index c.at-scripts.result.now c.at-script.result.now c.loop-index.progress
+          (Listed-next_script c.args.job.now c.args.settings.now c.args.worker _ c.loop-index.index c.at-scripts.result.now c.at-script.result.now c.loop-index.progress
           c.requires.straight c.at-scripts.ensures (omega arith) c.requires.worker_from c.at-script.ensures (omega arith) c.loop-index.invariant.listed);
       places = c.in_ok-progress.ensures.places ∙ c.loop-index.invariant.places;
       writers = omega (arith, ap (λ (next : Progress). next.writers) c.in_ok-progress.ensures.next, more);
