@@ -1,0 +1,8 @@
+pub mod Each
+pub mod Listing
+pub mod Meaning
+pub mod Openings
+pub mod Order
+pub mod Scripts
+pub mod Straight
+pub mod Telling
