@@ -1,6 +1,5 @@
 pub mod Each
 pub mod Listing
-pub mod Meaning
 pub mod Openings
 pub mod Order
 pub mod Scripts

@@ -3,23 +3,25 @@ use Rattle.std.proofs.Common.{◌≡◌, ◌+◌, ◌-◌, ◌<◌, ◌≤◌, �
 use Rattle.std.specs.Bool.{MatchBool}
 use Rattle.std.specs.List.{AllByRecursion, range_with_len}
 use Rattle.std.proofs.lemmas.Bool.Decides.{nat_tests}
-use Rattle.std.proofs.lemmas.List.{append-nil, map-append}
+use Rattle.std.proofs.lemmas.List.{append-nil, length-map, map-append}
+use Rattle.std.proofs.lemmas.List.FromFn.{length-range_with_len}
 use Rattle.std.proofs.lemmas.List.Elements.{filter-append}
 use Rattle.stm_model.specs.declared.settings.Settings.{Settings}
 use Rattle.ledger_model.specs.declared.job.Contents.{Contents}
 use Rattle.ledger_model.specs.declared.job.Job.{Job}
 use Rattle.ledger_model.specs.declared.listing.Row.{Row}
 use Rattle.ledger_model.specs.Contents.{opening_contents}
-use Rattle.ledger_model.specs.Order.{by, stands_before}
-use Rattle.ledger_model.specs.Replays.{writers_of, rows_of, run_of, scripts_of, block_of, contents_after, NamesScript, ListsScripts, ComesAfter, Tells, TellsWriter, TellsReader, TellsRow, InOrder, InTurns, Replays}
+use Rattle.ledger_model.specs.Order.{less_or_tied, stands_before}
+use Rattle.ledger_model.specs.Replays.{writers_of, rows_of, run_of, scripts_of, block_of, contents_after, NamesScript, ListsScripts, Tells, TellsWriter, TellsReader, TellsRow, InOrder, Replays}
+use Rattle.ledger_model.specs.Turns.{ComesAfter, InTurns}
 use Rattle.ledger_model.specs.Run.{Outcome, End, run}
 use Rattle.ledger_model.specs.Settle.{Settled, Commits, OnlyReads, Spends, settle, completing, handler_runs}
 use Rattle.plain_run.specs.declared.turns.Progress.{Progress}
 use Rattle.plain_run.specs.Listed.{Listed, writers_after, row_of, with_run}
 use Rattle.plain_run.specs.Plain.{IsPlain}
 use Rattle.plain_run.proofs.Each.{each_push, each_weaker, each_from_both, filter_none, range_push}
-use Rattle.plain_run.proofs.Order.{by-le, by-less, by-same, by-later, by_position, comes_after_position, in_order_push, in_turns_push}
-use Rattle.plain_run.proofs.Telling.{writers_of-push_writer, writers_of-push_other, contents_after-push, contents_after-last, tells_alike, tells-push}
+use Rattle.plain_run.proofs.Order.{less_or_tied-le, less_or_tied-less, less_or_tied-same, less_or_tied-later, by_position, comes_after_position, in_order_push, in_turns_push}
+use Rattle.plain_run.proofs.Telling.{writers_of-push_writer, writers_of-push_other, contents_after-push, contents_after-last, TellsAfter, tells_alike, tells-push}
 
 -- the row of another worker's script is none of this one's
 rows_of-push_other : (worker : ℕ) (rows : List Row) (row : Row) → row.worker ≢ worker → rows_of worker (rows ++ row ∷ []) ≡ rows_of worker rows
@@ -34,6 +36,23 @@ rows_of-push_own rows row =
     let yes : nat_eq row.worker row.worker ≡ true = grind (arith, nat_tests) in
     filter-append (λ other. nat_eq other.worker row.worker) rows (row ∷ [])
     ∙ ap (λ (b : Bool). let kept : List Row = cond b (row ∷ []) [] in rows_of row.worker rows ++ kept) yes
+
+-- ---- the scripts of a worker
+
+-- what lists a worker's scripts goes by its rows alone
+lists_alike : (job : Job) (rows more : List Row) (worker : ℕ) → rows_of worker rows ≡ rows_of worker more → ListsScripts job rows worker → ListsScripts job more worker
+lists_alike job rows more worker same lists = record {
+  numbered = subst (λ (some : List Row). map (λ row. row.number) some ≡ range_with_len 1 (length some)) same lists.numbered;
+  all = subst (λ (some : List Row). length some ≡ length (scripts_of job worker)) same lists.all;
+}
+
+-- where the numbers count up to the last script, all are listed
+lists_all : (job : Job) (rows : List Row) (worker ran : ℕ) → ran ≡ length (scripts_of job worker)
+    → map (λ row. row.number) (rows_of worker rows) ≡ range_with_len 1 ran → ListsScripts job rows worker
+lists_all job rows worker ran all counted =
+    let many : length (rows_of worker rows) ≡ ran =
+    sym (length-map (rows_of worker rows) (λ (row : Row). row.number)) ∙ ap (λ (ks : List ℕ). length ks) counted ∙ length-range_with_len 1 ran in
+    record { numbered = counted ∙ ap (λ (k : ℕ). range_with_len 1 k) (sym many); all = many ∙ all }
 
 -- ---- one row more
 
@@ -80,11 +99,11 @@ module _ (job : Job) (settings : Settings) (worker ran : ℕ) (progress : Progre
 
   in_order : InOrder rows
   in_order = in_order_push progress.rows row l.in_order
-      (each_from_both (λ earlier. earlier.position ≤ progress.writers) (λ earlier. IsTrue (by earlier.worker worker (nat_le earlier.number ran)))
+      (each_from_both (λ earlier. earlier.position ≤ progress.writers) (λ earlier. IsTrue (less_or_tied earlier.worker worker (nat_le earlier.number ran)))
       (λ earlier. IsTrue (stands_before earlier row))
       (λ earlier le before.
       by_position earlier.position progress.writers earlier.writer o.after.wrote _ le
-      (by-later earlier.worker worker (nat_le earlier.number ran) (nat_lt earlier.number (ran + 1)) (λ h. grind (arith, nat_tests)) before))
+      (less_or_tied-later earlier.worker worker (nat_le earlier.number ran) (nat_lt earlier.number (ran + 1)) (λ h. grind (arith, nat_tests)) before))
       progress.rows l.positions l.so_far)
 
   writers : n ≡ length (writers_of rows)
@@ -113,15 +132,14 @@ module _ (job : Job) (settings : Settings) (worker ran : ℕ) (progress : Progre
   named_so_far : AllByRecursion (λ row. NamesScript job row.worker row.number) rows
   named_so_far = each_push (λ row. NamesScript job row.worker row.number) progress.rows row l.named ready.named
 
-  so_far : AllByRecursion (λ row. IsTrue (by row.worker worker (nat_le row.number (ran + 1)))) rows
-  so_far = each_push (λ row. IsTrue (by row.worker worker (nat_le row.number (ran + 1)))) progress.rows row
-      (each_weaker (λ row. IsTrue (by row.worker worker (nat_le row.number ran))) (λ row. IsTrue (by row.worker worker (nat_le row.number (ran + 1))))
-      (λ row. by-later row.worker worker (nat_le row.number ran) (nat_le row.number (ran + 1)) (λ h. grind (arith, nat_tests))) progress.rows l.so_far)
-      (by-same worker _ (grind (arith, nat_tests)))
+  so_far : AllByRecursion (λ row. IsTrue (less_or_tied row.worker worker (nat_le row.number (ran + 1)))) rows
+  so_far = each_push (λ row. IsTrue (less_or_tied row.worker worker (nat_le row.number (ran + 1)))) progress.rows row
+      (each_weaker (λ row. IsTrue (less_or_tied row.worker worker (nat_le row.number ran))) (λ row. IsTrue (less_or_tied row.worker worker (nat_le row.number (ran + 1))))
+      (λ row. less_or_tied-later row.worker worker (nat_le row.number ran) (nat_le row.number (ran + 1)) (λ h. grind (arith, nat_tests))) progress.rows l.so_far)
+      (less_or_tied-same worker _ (grind (arith, nat_tests)))
 
   before : (other : ℕ) → 1 ≤ other → other < worker → ListsScripts job rows other
-  before other from less =
-      ap (λ (some : List Row). map (λ row. row.number) some) (rows_of-push_other other progress.rows row (λ same. absurd (omega arith))) ∙ l.before other from less
+  before other from less = lists_alike job progress.rows rows other (sym (rows_of-push_other other progress.rows row (λ same. absurd (omega arith)))) (l.before other from less)
 
   current : map (λ row. row.number) (rows_of worker rows) ≡ range_with_len 1 (ran + 1)
   current =
@@ -133,8 +151,8 @@ module _ (job : Job) (settings : Settings) (worker ran : ℕ) (progress : Progre
 
   in_turns : InTurns rows
   in_turns = in_turns_push progress.rows row l.in_turns
-      (each_weaker (λ earlier. IsTrue (by earlier.worker worker (nat_le earlier.number ran))) (λ earlier. earlier.worker ≤ worker)
-      (λ earlier. by-le earlier.worker worker (nat_le earlier.number ran)) progress.rows l.so_far)
+      (each_weaker (λ earlier. IsTrue (less_or_tied earlier.worker worker (nat_le earlier.number ran))) (λ earlier. earlier.worker ≤ worker)
+      (λ earlier. less_or_tied-le earlier.worker worker (nat_le earlier.number ran)) progress.rows l.so_far)
       (each_weaker (λ earlier. earlier.position ≤ progress.writers) (ComesAfter row)
       (λ earlier. comes_after_position earlier.position progress.writers o.after.wrote) progress.rows l.positions)
 
@@ -151,7 +169,7 @@ module _ (job : Job) (settings : Settings) (worker ran : ℕ) (progress : Progre
     by_kind : (wrote : Bool) → o.after.wrote ≡ wrote → o.after.contents ≡ contents_after job rows n
     by_kind true is =
         ap (λ (o : Outcome). o.after.contents) (sym ready.runs)
-        ∙ ap (λ (before : Contents). (run_of job row before).after.contents) l.contents
+        ∙ ap (λ (before : Contents). (run_of job row.worker row.number before).after.contents) l.contents
         ∙ sym (contents_after-last job progress.rows row progress.writers is refl l.writers)
         ∙ ap (λ (k : ℕ). contents_after job rows k) (sym (written is))
     by_kind false is = ready.unchanged is ∙ contents_before n (sym (only_read is))
@@ -159,11 +177,10 @@ module _ (job : Job) (settings : Settings) (worker ran : ℕ) (progress : Progre
   no_handlers : [] ≡ o.after.runs ++ completing o.after.hooks
   no_handlers = cc (ready.plain.runs, ap completing ready.plain.hooks)
 
-  tells_run : (how : Settled) → settle o progress.writers settings.clock ≡ how → [] ≡ handler_runs how o.after → Tells job settings row progress.contents progress.writers how
+  tells_run : (how : Settled) → settle o progress.writers settings.clock ≡ how → [] ≡ handler_runs how o.after → TellsAfter job settings row how progress.contents progress.writers
   tells_run how settled handlers = record {
     settled = ap (λ (o : Outcome). settle o progress.writers settings.clock) ready.runs ∙ settled;
-    done = refl;
-    prints = ap (λ (o : Outcome). o.after.prints) (sym ready.runs);
+    printed = ap (λ (o : Outcome). o.after.prints) (sym ready.runs);
     runs = handlers ∙ ap (λ (o : Outcome). handler_runs how o.after) (sym ready.runs);
   }
 
@@ -178,6 +195,7 @@ module _ (job : Job) (settings : Settings) (worker ran : ℕ) (progress : Progre
         let less : nat_lt progress.writers settings.clock ≡ true = let clock = ready.clock in grind (arith, nat_tests) in
         let commits : settle o progress.writers settings.clock ≡ Commits = settles ∙ cc in
         let writer : TellsWriter job settings rows row = record {
+          done = refl;
           tells = tells_alike job settings row Commits progress.contents (contents_after job rows (n - 1)) progress.writers (n - 1) (contents_before (n - 1) before) before (tells_run Commits commits no_handlers);
           drawn = omega arith;
         } in
@@ -244,7 +262,7 @@ pub Listed-next_worker : (job : Job) (settings : Settings) (worker ran : ℕ) (p
     → Listed job settings worker ran progress → Listed job settings (worker + 1) 0 progress
 Listed-next_worker job settings worker ran progress all l =
     let within : AllByRecursion (λ row. row.worker ≤ worker) progress.rows =
-    each_weaker (λ row. IsTrue (by row.worker worker (nat_le row.number ran))) (λ row. row.worker ≤ worker) (λ row. by-le row.worker worker (nat_le row.number ran)) progress.rows l.so_far in
+    each_weaker (λ row. IsTrue (less_or_tied row.worker worker (nat_le row.number ran))) (λ row. row.worker ≤ worker) (λ row. less_or_tied-le row.worker worker (nat_le row.number ran)) progress.rows l.so_far in
     record {
       in_order = l.in_order;
       writers = l.writers;
@@ -252,8 +270,8 @@ Listed-next_worker job settings worker ran progress all l =
       positions = l.positions;
       named = l.named;
       so_far =
-          each_weaker (λ row. row.worker ≤ worker) (λ row. IsTrue (by row.worker (worker + 1) (nat_le row.number 0))) (λ row le. by-less row.worker (worker + 1) (nat_le row.number 0) (omega arith)) progress.rows within;
-      before = λ other from less. elim (split_last other worker less) [ inl lower ↦ l.before other from lower | inr same ↦ subst (ListsScripts job progress.rows) (sym same) (l.current ∙ ap (λ (k : ℕ). range_with_len 1 k) all) ];
+          each_weaker (λ row. row.worker ≤ worker) (λ row. IsTrue (less_or_tied row.worker (worker + 1) (nat_le row.number 0))) (λ row le. less_or_tied-less row.worker (worker + 1) (nat_le row.number 0) (omega arith)) progress.rows within;
+      before = λ other from less. elim (split_last other worker less) [ inl lower ↦ l.before other from lower | inr same ↦ subst (ListsScripts job progress.rows) (sym same) (lists_all job progress.rows worker ran all l.current) ];
       current = ap (λ (some : List Row). map (λ row. row.number) some)
           (filter_none (λ row. nat_eq row.worker (worker + 1)) progress.rows
           (each_weaker (λ row. row.worker ≤ worker) (λ row. nat_eq row.worker (worker + 1) ≡ false) (λ row le. grind (arith, nat_tests)) progress.rows within));
@@ -272,7 +290,6 @@ Replays-all_workers job settings worker progress past l = record {
   named = l.named;
   complete = λ worker' from to. l.before worker' from (omega arith);
   rows = l.rows;
-  in_turns = l.in_turns;
   rolled = refl;
   blocked = refl;
   worn = refl;

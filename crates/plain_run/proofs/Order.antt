@@ -4,28 +4,29 @@ use Rattle.std.specs.Bool.{MatchBool}
 use Rattle.std.specs.List.{AllByRecursion}
 use Rattle.std.proofs.lemmas.Bool.Decides.{nat_tests}
 use Rattle.ledger_model.specs.declared.listing.Row.{Row}
-use Rattle.ledger_model.specs.Order.{by, kind_rank, stands_before}
-use Rattle.ledger_model.specs.Replays.{InOrder, InTurns, ComesAfter}
+use Rattle.ledger_model.specs.Order.{less_or_tied, kind_rank, stands_before}
+use Rattle.ledger_model.specs.Replays.{InOrder}
+use Rattle.ledger_model.specs.Turns.{ComesAfter, InTurns}
 use Rattle.plain_run.proofs.Each.{each_push, each_weaker, each_from_both}
 
-pub by-le : (a b : ℕ) (later : Bool) → IsTrue (by a b later) → a ≤ b
-by-le a b later h = grind (arith, nat_tests)
+pub less_or_tied-le : (a b : ℕ) (later : Bool) → IsTrue (less_or_tied a b later) → a ≤ b
+less_or_tied-le a b later h = grind (arith, nat_tests)
 
-pub by-less : (a b : ℕ) (later : Bool) → a < b → IsTrue (by a b later)
-by-less a b later h = grind (arith, nat_tests)
+pub less_or_tied-less : (a b : ℕ) (later : Bool) → a < b → IsTrue (less_or_tied a b later)
+less_or_tied-less a b later h = grind (arith, nat_tests)
 
-pub by-same : (a : ℕ) (later : Bool) → IsTrue later → IsTrue (by a a later)
-by-same a later h = grind (arith, nat_tests)
+pub less_or_tied-same : (a : ℕ) (later : Bool) → IsTrue later → IsTrue (less_or_tied a a later)
+less_or_tied-same a later h = grind (arith, nat_tests)
 
 -- where the last part tells no less
-pub by-later : (a b : ℕ) (earlier later : Bool) → (IsTrue earlier → IsTrue later) → IsTrue (by a b earlier) → IsTrue (by a b later)
-by-later a b true later f h = let last : later ≡ true = f refl in grind (arith, nat_tests)
-by-later a b false later f h = let less : nat_lt a b ≡ true = grind (arith, nat_tests) in grind (arith, nat_tests)
+pub less_or_tied-later : (a b : ℕ) (earlier later : Bool) → (IsTrue earlier → IsTrue later) → IsTrue (less_or_tied a b earlier) → IsTrue (less_or_tied a b later)
+less_or_tied-later a b true later f h = let last : later ≡ true = f refl in grind (arith, nat_tests)
+less_or_tied-later a b false later f h = let less : nat_lt a b ≡ true = grind (arith, nat_tests) in grind (arith, nat_tests)
 
 -- behind at most n writers, a writer's position is n + 1 and that of any other is n
 pub by_position : (p n : ℕ) (earlier writer later : Bool) → p ≤ n → IsTrue later
-    → IsTrue (by p (if writer then n + 1 else n) (by (kind_rank earlier) (kind_rank writer) later))
-by_position p n earlier true later le behind = by-less p (n + 1) _ (omega arith)
+    → IsTrue (less_or_tied p (if writer then n + 1 else n) (less_or_tied (kind_rank earlier) (kind_rank writer) later))
+by_position p n earlier true later le behind = less_or_tied-less p (n + 1) _ (omega arith)
 by_position p n true false later le behind = grind (arith, nat_tests)
 by_position p n false false later le behind = grind (arith, nat_tests)
 

@@ -6,10 +6,10 @@ use Rattle.ledger_model.specs.declared.script.Statement.{Statement}
 use Rattle.ledger_model.specs.declared.script.Statement.TheOpen.{Statement-F}
 use Rattle.ledger_model.specs.declared.script.Statement.TheOpen as layer
 use Rattle.ledger_model.specs.declared.script.Statement.TheFolds.{map-Statement, fold-roll-Statement, ind-Statement}
-use Rattle.ledger_model.specs.Run.{State, Outcome, Meaning, Known, End, Kept, Failed, Retried, kept, and_then, in_turn, step, known, meaning, run_block, late_bodies, next_late, start, run}
+use Rattle.ledger_model.specs.Run.{State, Outcome, Meaning, Known, End, Kept, Failed, Retried, kept, and_then, in_turn, step, known, meaning, run_block, late_bodies, next_late, start, run, statement_count}
 use Rattle.ledger_model.specs.Straight.{is_straight, straight_step}
 use Rattle.plain_run.specs.Plain.{IsPlain}
-use Rattle.plain_run.proofs.Meaning.{meaning-roll}
+use Rattle.ledger_model.proofs.Meaning.{meaning-roll}
 
 -- The part of the run from s on is kept, registers nothing, and leaves the contents where nothing was written.
 pub record GoesOn (s : State) (o : Outcome) : Type 0 where
@@ -87,7 +87,7 @@ pub run-straight : (block : List Statement) (contents : Contents) → AllByRecur
 run-straight block contents h =
     let g = goes_on_block block h (start contents) in
     let o : Outcome = run_block block (start contents) in
-    after_kept o (late_bodies (2 ^ 32)) g.end ∙ no_lates (2 ^ 32) o.after g.lates ∙ itself o g.end
+    after_kept o (late_bodies (statement_count block)) g.end ∙ no_lates (statement_count block) o.after g.lates ∙ itself o g.end
 
 -- the run of a script's statements, from the start on, is the script's
 pub run-by_block : (block statements : List Statement) (contents : Contents) (s t : State) → AllByRecursion (λ statement. IsTrue (is_straight statement)) block

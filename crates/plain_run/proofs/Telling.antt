@@ -8,7 +8,7 @@ use Rattle.ledger_model.specs.declared.job.Contents.{Contents}
 use Rattle.ledger_model.specs.declared.job.Job.{Job}
 use Rattle.ledger_model.specs.declared.listing.Row.{Row}
 use Rattle.ledger_model.specs.Contents.{opening_contents}
-use Rattle.ledger_model.specs.Replays.{writers_of, run_of, left_by, after_writers, contents_after, Tells, TellsWriter, TellsReader, TellsRow}
+use Rattle.ledger_model.specs.Replays.{writers_of, run_of, left_by, after_writers, contents_after, Tells, TellsResult, TellsWriter, TellsReader, TellsRow}
 use Rattle.ledger_model.specs.Run.{allowance}
 use Rattle.ledger_model.specs.Settle.{Settled, Commits, OnlyReads}
 
@@ -33,14 +33,14 @@ after_writers-push job [] row contents = refl
 after_writers-push job (first ∷ rows) row contents = after_writers-push job rows row (left_by job first contents)
 
 -- a row that draws nothing
-left_by-none : (job : Job) (row : Row) (contents : Contents) → row.drawn ≡ 0 → left_by job row contents ≡ (run_of job row contents).after.contents
+left_by-none : (job : Job) (row : Row) (contents : Contents) → row.drawn ≡ 0 → left_by job row contents ≡ (run_of job row.worker row.number contents).after.contents
 left_by-none job row contents drawn =
-    let left : Contents = (run_of job row contents).after.contents in
+    let left : Contents = (run_of job row.worker row.number contents).after.contents in
     ap (λ (k : ℕ). let with_used : Contents = record left { used = k } in with_used) (ap (λ (k : ℕ). left.used + k) drawn ∙ add-zero left.used)
 
 -- a writer at the end leaves what its script leaves
 pub contents_after-last : (job : Job) (rows : List Row) (row : Row) (n : ℕ) → row.writer ≡ true → row.drawn ≡ 0 → n ≡ length (writers_of rows)
-    → contents_after job (rows ++ row ∷ []) (n + 1) ≡ (run_of job row (contents_after job rows n)).after.contents
+    → contents_after job (rows ++ row ∷ []) (n + 1) ≡ (run_of job row.worker row.number (contents_after job rows n)).after.contents
 contents_after-last job rows row n is drawn count =
     let writers : List Row = writers_of rows in
     let opening : Contents = opening_contents job in
@@ -57,10 +57,21 @@ both_ways : (b : Bool) (P Q R S : Type 0) → (P → R) → (Q → S) → MatchB
 both_ways true P Q R S f g h = f h
 both_ways false P Q R S f g h = g h
 
+-- what a script that ran on these contents after so many writers does, with what it printed
+abbrev pub TellsAfter : Job → Settings → Row → Settled → Contents → ℕ → Type 0
+TellsAfter job settings row how contents writers =
+    let outcome = run_of job row.worker row.number contents in Tells settings row outcome writers how outcome.after.prints
+
 -- what a row tells of contents and a number of writers, it tells of the same by other names
-pub tells_alike : (job : Job) (settings : Settings) (row : Row) (how : Settled) (c d : Contents) (m n : ℕ) → c ≡ d → m ≡ n → Tells job settings row c m how → Tells job settings row d n how
+pub tells_alike : (job : Job) (settings : Settings) (row : Row) (how : Settled) (c d : Contents) (m n : ℕ) → c ≡ d → m ≡ n → TellsAfter job settings row how c m → TellsAfter job settings row how d n
 tells_alike job settings row how c d m n same equal tells =
-    subst (λ (k : ℕ). Tells job settings row d k how) equal (subst (λ (e : Contents). Tells job settings row e m how) same tells)
+    subst (λ (k : ℕ). TellsAfter job settings row how d k) equal (subst (λ (e : Contents). TellsAfter job settings row how e m) same tells)
+
+-- what a reader tells of contents, it tells of the same by another name
+tells_result_alike : (job : Job) (settings : Settings) (row : Row) (c d : Contents) → c ≡ d
+    → TellsResult row.result settings row (run_of job row.worker row.number c) → TellsResult row.result settings row (run_of job row.worker row.number d)
+tells_result_alike job settings row c d same tells =
+    subst (λ (e : Contents). TellsResult row.result settings row (run_of job row.worker row.number e)) same tells
 
 pub tells-push : (job : Job) (settings : Settings) (rows : List Row) (row earlier : Row) → earlier.position ≤ length (writers_of rows)
     → TellsRow job settings rows earlier → TellsRow job settings (rows ++ row ∷ []) earlier
@@ -70,12 +81,13 @@ tells-push job settings rows row earlier le =
     (λ writer.
     let same = sym (contents_after-push job rows row (earlier.position - 1) (omega arith)) in
     record {
+      done = writer.done;
       tells = tells_alike job settings earlier Commits _ _ _ _ same refl writer.tells;
-      drawn = subst (λ (c : Contents). earlier.drawn ≤ allowance (run_of job earlier c).after) same writer.drawn;
+      drawn = subst (λ (c : Contents). earlier.drawn ≤ allowance (run_of job earlier.worker earlier.number c).after) same writer.drawn;
     })
     (λ reader.
     let same = sym (contents_after-push job rows row earlier.position le) in
     record {
-      tells = tells_alike job settings earlier OnlyReads _ _ _ _ same refl reader.tells;
+      tells = tells_result_alike job settings earlier _ _ same reader.tells;
       drawn = reader.drawn;
     })

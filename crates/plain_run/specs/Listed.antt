@@ -6,9 +6,10 @@ use Rattle.ledger_model.specs.declared.job.Job.{Job}
 use Rattle.ledger_model.specs.declared.listing.Row.{Row}
 use Rattle.ledger_model.specs.declared.listing.RowResult.TheVariants.{Done}
 use Rattle.ledger_model.specs.declared.script.Statement.{Statement}
-use Rattle.ledger_model.specs.Order.{by}
-use Rattle.ledger_model.specs.Replays.{writers_of, rows_of, contents_after, NamesScript, ListsScripts, TellsRow, InOrder, InTurns}
+use Rattle.ledger_model.specs.Order.{less_or_tied}
+use Rattle.ledger_model.specs.Replays.{writers_of, rows_of, contents_after, NamesScript, ListsScripts, TellsRow, InOrder}
 use Rattle.ledger_model.specs.Run.{Outcome, run}
+use Rattle.ledger_model.specs.Turns.{InTurns}
 use Rattle.plain_run.specs.declared.turns.Progress.{Progress}
 
 -- how many writers there are after a run
@@ -45,7 +46,7 @@ pub record Listed (job : Job) (settings : Settings) (worker ran : ℕ) (progress
   pub stamps : map (λ row. row.position) (writers_of progress.rows) ≡ range_with_len 1 progress.writers
   pub positions : AllByRecursion (λ row. row.position ≤ progress.writers) progress.rows
   pub named : AllByRecursion (λ row. NamesScript job row.worker row.number) progress.rows
-  pub so_far : AllByRecursion (λ row. IsTrue (by row.worker worker (nat_le row.number ran))) progress.rows
+  pub so_far : AllByRecursion (λ row. IsTrue (less_or_tied row.worker worker (nat_le row.number ran))) progress.rows
   pub before : (other : ℕ) → 1 ≤ other → other < worker → ListsScripts job progress.rows other
   pub current : map (λ row. row.number) (rows_of worker progress.rows) ≡ range_with_len 1 ran
   pub rows : AllByRecursion (TellsRow job settings progress.rows) progress.rows

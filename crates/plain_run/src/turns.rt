@@ -3,6 +3,7 @@ ghost use Rattle.std.specs.Prelude.{◌≡◌, ◌+◌, ◌^◌, ◌<◌, ◌≤
 ghost use Rattle.ledger_model.specs.Fits.{JobFits, ScriptFits, places};
 ghost use Rattle.ledger_model.specs.Replays.{Replays, scripts_of};
 ghost use Rattle.ledger_model.specs.Straight.{IsStraight, IsStraightScript};
+ghost use Rattle.ledger_model.specs.Turns.{InTurns};
 ghost use Rattle.plain_run.specs.Counts.{places_in, script_count};
 ghost use Rattle.plain_run.specs.Listed.{Listed, with_run};
 
@@ -17,7 +18,9 @@ pub fn run_in_turn(alloc: Global, job: &Job, settings: &Settings) -> Result<List
     requires fits { JobFits job.now }
     requires straight { IsStraight job.now }
     requires clock { script_count job.now ≤ settings.now.clock }
-    ensures { IfOk result (λ listing. Replays job.now settings.now listing) }
+    ensures replays { IfOk result (λ listing. Replays job.now settings.now listing) }
+    ensures in_turns { IfOk result (λ listing. InTurns listing.rows) }
+    ensures places { IfOk result (λ listing. places_in listing.contents ≡ places job.now) }
 {
     let mut progress = Progress {
         rows: Rows::new(alloc),

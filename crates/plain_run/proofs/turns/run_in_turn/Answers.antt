@@ -22,7 +22,7 @@ loop-index-preserved c = record {
       omega arith;
 }
 
-pub returns : goal.returns
-returns c =
+pub returns-clause-replays : goal.returns-clause-replays
+returns-clause-replays c =
     rw (c.new-2.ensures, c.new-3.ensures, c.new-4.ensures)
     (Replays-all_workers c.args.job.now c.args.settings.now (c.loop-index.index + 1) c.loop-index.progress (omega arith) c.loop-index.invariant.listed)
