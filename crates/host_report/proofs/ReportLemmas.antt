@@ -102,7 +102,7 @@ shown_same a b h k e =
 -- ---- listings
 
 by_fields : (a b : Listing) → a.rows ≡ b.rows → a.rolled ≡ b.rolled → a.blocked ≡ b.blocked → a.worn ≡ b.worn → a.contents ≡ b.contents → a ≡ b
-by_fields a b r o l w c = cc
+by_fields a b r o l w c = rw (r, o, l, w, c) refl
 
 -- replaying one job with the same rows gives one listing
 pub replay_same : (job : Job) (settings others : Settings) (a b : Listing) → Replays job settings a → Replays job others b → a.rows ≡ b.rows → a ≡ b

@@ -145,7 +145,9 @@ run_same a b h k e =
         (sym (append_assoc (phase_word a.0) (codes ":") (decimal a.1)) ∙ e ∙ append_assoc (phase_word b.0) (codes ":") (decimal b.1)) in
     let p = phase_same a.0 b.0 t.0 in
     let n = decimal_injective a.1 b.1 h k (heads_same 58 58 (decimal a.1) (decimal b.1) t.1).1 in
-    cc
+    by_parts a b p n where
+  by_parts : (a b : HookPhase × ℕ) → a.0 ≡ b.0 → a.1 ≡ b.1 → a ≡ b
+  by_parts a b p n = rw (p, n) refl
 
 drawn_same : (m n : ℕ) → IsWord m → IsWord n → drawn_words m ≡ drawn_words n → m ≡ n
 drawn_same zero zero h k e = refl
@@ -182,7 +184,7 @@ runs_stop_prints (run ∷ runs) n = ap not (run_is_no_number run)
 
 by_fields : (a b : Row) → a.position ≡ b.position → a.writer ≡ b.writer → a.worker ≡ b.worker → a.number ≡ b.number → a.result ≡ b.result
     → a.prints ≡ b.prints → a.runs ≡ b.runs → a.drawn ≡ b.drawn → a ≡ b
-by_fields a b p k w n r ps rs d = cc
+by_fields a b p k w n r ps rs d = rw (p, k, w, n, r, ps, rs, d) refl
 
 -- rows with one line are equal
 pub row_same : (a b : Row) → IsRowWithinTypes a → IsRowWithinTypes b → row_line a ≡ row_line b → a ≡ b

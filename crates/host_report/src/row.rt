@@ -8,10 +8,14 @@ use ledger_model::{Row, RowResult};
 use stm_model::{HookPhase, Runs, Words};
 use text_lines::{Memory, end_line, put, put_number, put_number_word, put_word};
 
-fn kind_word(writer: bool) -> &'static [u8]
-    ensures { result.now ≡ kind_word writer }
+fn put_kind(text: &mut Vec<u8>, writer: bool) -> Result<(), Memory>
+    ensures { OnOk result (text.new.items ≡ text.old.items ++ 32 ∷ kind_word writer) }
 {
-    if writer { b"w" } else { b"r" }
+    if writer {
+        put_word(text, b"w")
+    } else {
+        put_word(text, b"r")
+    }
 }
 
 fn phase_word(phase: HookPhase) -> &'static [u8]
@@ -93,7 +97,7 @@ pub fn put_row(text: &mut Vec<u8>, row: &Row) -> Result<(), Memory>
     ensures { OnOk result (text.new.items ≡ text.old.items ++ line_of (row_line row.now)) }
 {
     put_number(text, row.position)?;
-    put_word(text, kind_word(row.writer))?;
+    put_kind(text, row.writer)?;
     put_name(text, row.worker, row.number)?;
     put_result(text, row.result)?;
     put_prints(text, &row.prints)?;

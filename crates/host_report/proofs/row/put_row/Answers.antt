@@ -4,5 +4,5 @@ use Rattle.host_report.proofs.row.put_row.Goals as goal
 
 pub returns : goal.returns
 returns c =
-    on_ok_weaker c.end_line.result (row_written _ _ _ _ _ _ _ _ _ _ _ _ _ _ _ _ c.in_ok-put_number.ensures.ok c.in_ok-put_word.ensures.ok c.in_ok-put_name.ensures
+    on_ok_weaker c.end_line.result (row_written _ _ _ _ _ _ _ _ _ _ _ _ _ _ _ _ c.in_ok-put_number.ensures.ok c.in_ok-put_kind.ensures c.in_ok-put_name.ensures
         c.in_ok-put_result.ensures c.in_ok-put_prints.ensures c.in_ok-put_runs.ensures c.in_ok-put_drawn.ensures) c.end_line.ensures.ok
