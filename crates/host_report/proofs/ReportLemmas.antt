@@ -1,5 +1,5 @@
 -- The lines of a report are rows of words, and they tell the rows, the references and the blocks in use.
-use Rattle.std.proofs.Common.{◌≡◌, ℕ, ◌+◌, ◌≤◌, ◌<◌, ◌^◌, Bool, true, false, nat_eq, IsTrue, List, [], ◌∷◌, ◌++◌, map, length, refl, ap, ◌∙◌, sym, arith, codes, decimal}
+use Rattle.std.proofs.Common.{◌≡◌, ◌↔◌, ℕ, ◌+◌, ◌≤◌, ◌<◌, ◌^◌, Bool, true, false, nat_eq, IsTrue, List, [], ◌∷◌, ◌++◌, map, length, refl, ap, ◌∙◌, sym, arith, codes, decimal}
 use Rattle.std.proofs.lemmas.Fmt.{decimal_injective}
 use Rattle.std.specs.List.{AllByRecursion, list_all, enumerate_from}
 use Rattle.stm_model.specs.declared.settings.Settings.{Settings}
@@ -13,7 +13,7 @@ use Rattle.ledger_model.specs.declared.listing.Listing.{Listing}
 use Rattle.ledger_model.specs.declared.listing.Row.{Row}
 use Rattle.ledger_model.specs.Replays.{Replays, contents_after, writers_of}
 use Rattle.ledger_model.specs.Report.{row_line, ref_line, ref_lines, count_line, closing_lines, report_lines, report}
-use Rattle.host_report.specs.OneText.{TextFixesListing}
+use Rattle.host_report.specs.OneText.{ShowSame, TextFixesListing}
 use Rattle.host_report.specs.WithinTypes.{IsWord, IsRowWithinTypes, IsWithinTypes}
 use Rattle.host_report.proofs.RowLemmas.{all_pass, first_byte, row_line_of_words, row_same}
 
@@ -26,14 +26,14 @@ refs_of_words n (x ∷ refs) l h = ((refl, (decimal_word n (omega arith), (decim
 closing_of_words : (listing : Listing) → IsWithinTypes listing → AllByRecursion AreWords (closing_lines listing)
 closing_of_words listing h =
     AllByRecursion-append AreWords (ref_lines listing.contents.refs) (count_line (codes "used") listing.contents.used ∷ count_line (codes "done") (length listing.rows) ∷ [])
-        (refs_of_words 0 listing.contents.refs (omega (arith, h.cells)) h.refs)
-        ((refl, (decimal_word listing.contents.used h.used, tt)), ((refl, (decimal_word (length listing.rows) h.count, tt)), tt))
+        (refs_of_words 0 listing.contents.refs (omega (arith, h.refs.count)) h.refs.each)
+        ((refl, (decimal_word listing.contents.used h.used, tt)), ((refl, (decimal_word (length listing.rows) h.rows.count, tt)), tt))
 
 -- each line of a report is a row of words
 pub report_of_words : (listing : Listing) → IsWithinTypes listing → AllByRecursion AreWords (report_lines listing)
 report_of_words listing h =
     ((refl, (refl, tt)), AllByRecursion-append AreWords (map row_line listing.rows) (closing_lines listing)
-        (AllByRecursion-map IsRowWithinTypes AreWords row_line row_line_of_words listing.rows h.rows) (closing_of_words listing h))
+        (AllByRecursion-map IsRowWithinTypes AreWords row_line row_line_of_words listing.rows h.rows.each) (closing_of_words listing h))
 
 pub lines_come_back : (listing : Listing) → IsWithinTypes listing → map words (lines (report listing)) ≡ report_lines listing
 lines_come_back listing h = words_come_back (report_lines listing) (report_of_words listing h)
@@ -77,27 +77,28 @@ refs_same n (x ∷ xs) (y ∷ ys) h k e =
     let rest = refs_same (n + 1) xs ys h.1 k.1 t.1 in
     cc
 
--- what a report shows
-pub record ShowSame (a b : Listing) : Type 0 where
-  pub rows : a.rows ≡ b.rows
-  pub refs : a.contents.refs ≡ b.contents.refs
-  pub used : a.contents.used ≡ b.contents.used
-
 -- listings with one report show the same
 pub shown_same : (a b : Listing) → IsWithinTypes a → IsWithinTypes b → report a ≡ report b → ShowSame a b
 shown_same a b h k e =
     let all = words_same (report_lines a) (report_lines b) (report_of_words a h) (report_of_words b k) e in
     let body = heads_same (codes "ledger" ∷ codes "1" ∷ []) (codes "ledger" ∷ codes "1" ∷ []) (map row_line a.rows ++ closing_lines a) (map row_line b.rows ++ closing_lines b) all in
     let rows = front_same begins_with_number (map row_line a.rows) (map row_line b.rows) (closing_lines a) (closing_lines b)
-        (all_pass IsRowWithinTypes begins_with_number row_line row_begins a.rows h.rows) (all_pass IsRowWithinTypes begins_with_number row_line row_begins b.rows k.rows)
+        (all_pass IsRowWithinTypes begins_with_number row_line row_begins a.rows h.rows.each) (all_pass IsRowWithinTypes begins_with_number row_line row_begins b.rows k.rows.each)
         (closing_stops_rows a.contents.refs _ refl) (closing_stops_rows b.contents.refs _ refl) body.1 in
     let refs = front_same begins_with_r (ref_lines a.contents.refs) (ref_lines b.contents.refs) _ _ (refs_begin 0 a.contents.refs) (refs_begin 0 b.contents.refs) refl refl rows.1 in
     let used : decimal a.contents.used ≡ decimal b.contents.used = cc in
     record {
-      rows = map_same IsRowWithinTypes row_line row_same a.rows b.rows h.rows k.rows rows.0;
-      refs = refs_same 0 a.contents.refs b.contents.refs h.refs k.refs refs.0;
+      rows = map_same IsRowWithinTypes row_line row_same a.rows b.rows h.rows.each k.rows.each rows.0;
+      refs = refs_same 0 a.contents.refs b.contents.refs h.refs.each k.refs.each refs.0;
       used = decimal_injective a.contents.used b.contents.used h.used k.used used;
     }
+
+-- the report shows nothing else
+report_shows : (a b : Listing) → ShowSame a b → report a ≡ report b
+report_shows a b h = rw (h.rows, h.refs, h.used) refl
+
+pub one_report : (a b : Listing) → IsWithinTypes a → IsWithinTypes b → (report a ≡ report b) ↔ ShowSame a b
+one_report a b h k = (shown_same a b h k, report_shows a b)
 
 -- ---- listings
 

@@ -1,5 +1,5 @@
 -- The numbers of rows and listings, within the types of their fields.
-use Rattle.std.specs.Prelude.{ℕ, ◌<◌, ◌^◌, length}
+use Rattle.std.specs.Prelude.{ℕ, ◌<◌, ◌^◌, List, length}
 use Rattle.std.specs.List.{AllByRecursion}
 use Rattle.stm_model.specs.declared.cause.HookPhase.{HookPhase}
 use Rattle.ledger_model.specs.declared.job.Contents.{Contents}
@@ -31,10 +31,13 @@ pub record IsRowWithinTypes (row : Row) : Type 0 where
   pub runs : AllByRecursion IsRunWithinTypes row.runs
   pub drawn : IsWord row.drawn
 
--- The same of each number that a listing's report shows. The lengths of its lists are among them.
+-- Each entry of the list is within its type, and the list's length is a word.
+pub record EachWithin {X : Type 0} (P : X → Type 0) (xs : List X) : Type 0 where
+  pub each : AllByRecursion P xs
+  pub count : IsWord (length xs)
+
+-- what the types allow for all that a listing's report shows
 pub record IsWithinTypes (listing : Listing) : Type 0 where
-  pub rows : AllByRecursion IsRowWithinTypes listing.rows
-  pub count : IsWord (length listing.rows)
-  pub refs : AllByRecursion IsWord listing.contents.refs
-  pub cells : IsWord (length listing.contents.refs)
+  pub rows : EachWithin IsRowWithinTypes listing.rows
+  pub refs : EachWithin IsWord listing.contents.refs
   pub used : IsWord listing.contents.used

@@ -1,12 +1,11 @@
 //! The laws of reports. Each function does nothing: its clauses are theorems over all listings
 //! whose numbers are within their types.
 
-ghost use Rattle.std.specs.Prelude.{◌≡◌, map};
+ghost use Rattle.std.specs.Prelude.{◌≡◌, ◌↔◌, map};
 ghost use Rattle.text_lines.specs.Lines.{lines, words};
 ghost use Rattle.ledger_model.specs.declared.listing.Listing.{Listing};
-ghost use Rattle.ledger_model.specs.declared.job.Contents.{Contents};
 ghost use Rattle.ledger_model.specs.Report.{report, report_lines};
-ghost use Rattle.host_report.specs.OneText.{TextFixesListing};
+ghost use Rattle.host_report.specs.OneText.{ShowSame, TextFixesListing};
 ghost use Rattle.host_report.specs.WithinTypes.{IsWithinTypes};
 
 /// Two listings that replay one job and have one report are equal.
@@ -15,11 +14,9 @@ pub fn text_fixes_listing()
 {
 }
 
-/// What two listings with one report share, whether they replay a job or not.
+/// Two listings have one report exactly where they show the same, whether they replay a job or not.
 pub fn text_fixes_what_it_shows()
-    ensures rows { (a b : Listing) → IsWithinTypes a → IsWithinTypes b → report a ≡ report b → a.rows ≡ b.rows }
-    ensures refs { (a b : Listing) → IsWithinTypes a → IsWithinTypes b → report a ≡ report b → a.contents.refs ≡ b.contents.refs }
-    ensures used { (a b : Listing) → IsWithinTypes a → IsWithinTypes b → report a ≡ report b → a.contents.used ≡ b.contents.used }
+    ensures { (a b : Listing) → IsWithinTypes a → IsWithinTypes b → (report a ≡ report b) ↔ ShowSame a b }
 {
 }
 

@@ -1,8 +1,10 @@
 //! The line of a row. What stands behind its first word is put down word by word, each behind a space.
 
 ghost use Rattle.std.specs.Prelude.{◌≡◌, ◌++◌, ◌∷◌, [], codes, decimal, map, OnOk};
+ghost use Rattle.std.specs.List.{AllByRecursion};
 ghost use Rattle.text_lines.specs.Lines.{line_of, spaced};
 ghost use Rattle.ledger_model.specs.Report.{drawn_words, kind_word, name_word, phase_word, result_words, row_line, run_word};
+ghost use Rattle.host_report.specs.WithinTypes.{IsWord, IsResultWithinTypes, IsRunWithinTypes, IsRowWithinTypes};
 
 use ledger_model::{Row, RowResult};
 use stm_model::{HookPhase, Runs, Words};
@@ -39,7 +41,8 @@ fn put_name(text: &mut Vec<u8>, worker: u16, number: u32) -> Result<(), Memory>
 }
 
 fn put_result(text: &mut Vec<u8>, outcome: RowResult) -> Result<(), Memory>
-    ensures { OnOk result (text.new.items ≡ text.old.items ++ spaced (result_words outcome)) }
+    ensures text { OnOk result (text.new.items ≡ text.old.items ++ spaced (result_words outcome)) }
+    ensures within { OnOk result (IsResultWithinTypes outcome) }
 {
     match outcome {
         RowResult::Done => put_word(text, b"ok"),
@@ -57,7 +60,8 @@ fn put_result(text: &mut Vec<u8>, outcome: RowResult) -> Result<(), Memory>
 }
 
 fn put_prints(text: &mut Vec<u8>, prints: &Words) -> Result<(), Memory>
-    ensures { OnOk result (text.new.items ≡ text.old.items ++ spaced (map decimal prints.now)) }
+    ensures text { OnOk result (text.new.items ≡ text.old.items ++ spaced (map decimal prints.now)) }
+    ensures within { OnOk result (AllByRecursion IsWord prints.now) }
 {
     for print in prints.as_slice() {
         put_number_word(text, *print)?;
@@ -74,7 +78,8 @@ fn put_run(text: &mut Vec<u8>, phase: HookPhase, token: u64) -> Result<(), Memor
 }
 
 fn put_runs(text: &mut Vec<u8>, runs: &Runs) -> Result<(), Memory>
-    ensures { OnOk result (text.new.items ≡ text.old.items ++ spaced (map run_word runs.now)) }
+    ensures text { OnOk result (text.new.items ≡ text.old.items ++ spaced (map run_word runs.now)) }
+    ensures within { OnOk result (AllByRecursion IsRunWithinTypes runs.now) }
 {
     for (phase, token) in runs.as_slice() {
         put_run(text, *phase, *token)?;
@@ -94,7 +99,8 @@ fn put_drawn(text: &mut Vec<u8>, drawn: u64) -> Result<(), Memory>
 
 /// Appends the line of a row.
 pub fn put_row(text: &mut Vec<u8>, row: &Row) -> Result<(), Memory>
-    ensures { OnOk result (text.new.items ≡ text.old.items ++ line_of (row_line row.now)) }
+    ensures text { OnOk result (text.new.items ≡ text.old.items ++ line_of (row_line row.now)) }
+    ensures within { OnOk result (IsRowWithinTypes row.now) }
 {
     put_number(text, row.position)?;
     put_kind(text, row.writer)?;
