@@ -131,13 +131,13 @@ mod tests {
         })
     }
 
-    fn unwritten(alloc: Global, number: u32, result: RowResult, runs: Runs) -> Row {
+    fn unwritten(alloc: Global, number: u32, outcome: RowResult, runs: Runs) -> Row {
         Row {
             position: 1,
             writer: false,
             worker: 65535,
             number,
-            result,
+            result: outcome,
             prints: Words::new(alloc),
             runs,
             drawn: 0,
