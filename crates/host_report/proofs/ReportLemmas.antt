@@ -1,5 +1,5 @@
 -- The lines of a report are rows of words, and they tell the rows, the references and the blocks in use.
-use Rattle.std.proofs.Common.{◌≡◌, ◌↔◌, ℕ, ◌+◌, ◌≤◌, ◌<◌, ◌^◌, Bool, true, false, nat_eq, IsTrue, List, [], ◌∷◌, ◌++◌, map, length, refl, ap, ◌∙◌, sym, arith, codes, decimal}
+use Rattle.std.proofs.Common.{◌≡◌, ◌↔◌, ℕ, ◌+◌, ◌<◌, ◌^◌, Bool, true, nat_eq, List, [], ◌∷◌, ◌++◌, map, length, refl, ap, ◌∙◌, sym, arith, codes, decimal}
 use Rattle.std.proofs.lemmas.Fmt.{decimal_injective}
 use Rattle.std.specs.List.{AllByRecursion, list_all, enumerate_from}
 use Rattle.stm_model.specs.declared.settings.Settings.{Settings}
@@ -7,7 +7,6 @@ use Rattle.text_lines.specs.Lines.{Row as Line, AreWords, lines, words}
 use Rattle.text_lines.proofs.Lists.{AllByRecursion-append, AllByRecursion-map, heads_same, stops, front_same, map_same}
 use Rattle.text_lines.proofs.LineLemmas.{words_come_back, words_same}
 use Rattle.text_lines.proofs.NumberLemmas.{all_digits, decimal_digits, decimal_word}
-use Rattle.ledger_model.specs.declared.job.Contents.{Contents}
 use Rattle.ledger_model.specs.declared.job.Job.{Job}
 use Rattle.ledger_model.specs.declared.listing.Listing.{Listing}
 use Rattle.ledger_model.specs.declared.listing.Row.{Row}
@@ -26,14 +25,16 @@ refs_of_words n (x ∷ refs) l h = ((refl, (decimal_word n (omega arith), (decim
 closing_of_words : (listing : Listing) → IsWithinTypes listing → AllByRecursion AreWords (closing_lines listing)
 closing_of_words listing h =
     AllByRecursion-append AreWords (ref_lines listing.contents.refs) (count_line (codes "used") listing.contents.used ∷ count_line (codes "done") (length listing.rows) ∷ [])
-        (refs_of_words 0 listing.contents.refs (omega (arith, h.refs.count)) h.refs.each)
-        ((refl, (decimal_word listing.contents.used h.used, tt)), ((refl, (decimal_word (length listing.rows) h.rows.count, tt)), tt))
+    (refs_of_words 0 listing.contents.refs (omega (arith, h.refs.count)) h.refs.each)
+    ((refl, (decimal_word listing.contents.used h.used, tt)), ((refl, (decimal_word (length listing.rows) h.rows.count, tt)), tt))
 
 -- each line of a report is a row of words
 pub report_of_words : (listing : Listing) → IsWithinTypes listing → AllByRecursion AreWords (report_lines listing)
-report_of_words listing h =
-    ((refl, (refl, tt)), AllByRecursion-append AreWords (map row_line listing.rows) (closing_lines listing)
-        (AllByRecursion-map IsRowWithinTypes AreWords row_line row_line_of_words listing.rows h.rows.each) (closing_of_words listing h))
+report_of_words listing h = (
+  (refl, (refl, tt)),
+  AllByRecursion-append AreWords (map row_line listing.rows) (closing_lines listing)
+      (AllByRecursion-map IsRowWithinTypes AreWords row_line row_line_of_words listing.rows h.rows.each) (closing_of_words listing h),
+)
 
 pub lines_come_back : (listing : Listing) → IsWithinTypes listing → map words (lines (report listing)) ≡ report_lines listing
 lines_come_back listing h = words_come_back (report_lines listing) (report_of_words listing h)
@@ -83,8 +84,8 @@ shown_same a b h k e =
     let all = words_same (report_lines a) (report_lines b) (report_of_words a h) (report_of_words b k) e in
     let body = heads_same (codes "ledger" ∷ codes "1" ∷ []) (codes "ledger" ∷ codes "1" ∷ []) (map row_line a.rows ++ closing_lines a) (map row_line b.rows ++ closing_lines b) all in
     let rows = front_same begins_with_number (map row_line a.rows) (map row_line b.rows) (closing_lines a) (closing_lines b)
-        (all_pass IsRowWithinTypes begins_with_number row_line row_begins a.rows h.rows.each) (all_pass IsRowWithinTypes begins_with_number row_line row_begins b.rows k.rows.each)
-        (closing_stops_rows a.contents.refs _ refl) (closing_stops_rows b.contents.refs _ refl) body.1 in
+    (all_pass IsRowWithinTypes begins_with_number row_line row_begins a.rows h.rows.each) (all_pass IsRowWithinTypes begins_with_number row_line row_begins b.rows k.rows.each)
+    (closing_stops_rows a.contents.refs _ refl) (closing_stops_rows b.contents.refs _ refl) body.1 in
     let refs = front_same begins_with_r (ref_lines a.contents.refs) (ref_lines b.contents.refs) _ _ (refs_begin 0 a.contents.refs) (refs_begin 0 b.contents.refs) refl refl rows.1 in
     let used : decimal a.contents.used ≡ decimal b.contents.used = cc in
     record {
@@ -109,7 +110,7 @@ by_fields a b r o l w c = rw (r, o, l, w, c) refl
 pub replay_same : (job : Job) (settings others : Settings) (a b : Listing) → Replays job settings a → Replays job others b → a.rows ≡ b.rows → a ≡ b
 replay_same job settings others a b h k e =
     by_fields a b e (h.rolled ∙ sym k.rolled) (h.blocked ∙ sym k.blocked) (h.worn ∙ sym k.worn)
-        (h.contents ∙ ap (λ (rows : List Row). contents_after job rows (length (writers_of rows))) e ∙ sym k.contents)
+    (h.contents ∙ ap (λ (rows : List Row). contents_after job rows (length (writers_of rows))) e ∙ sym k.contents)
 
 pub text_fixes_listing : TextFixesListing
 text_fixes_listing job settings others a b h k p q e = replay_same job settings others a b p q (shown_same a b h k e).rows

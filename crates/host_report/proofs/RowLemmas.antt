@@ -1,5 +1,5 @@
 -- The line of a row is a row of words, and rows that differ have lines that differ.
-use Rattle.std.proofs.Common.{◌≡◌, ℕ, zero, suc, ◌+◌, ◌<◌, ◌^◌, Bool, true, false, ◌&&◌, not, nat_eq, nat_le, if◌then◌else◌, IsTrue, List, [], ◌∷◌, ◌++◌, map, length, slice_index, refl, sym, ap, ◌∙◌, append_assoc, arith, codes, decimal}
+use Rattle.std.proofs.Common.{◌≡◌, ℕ, zero, suc, ◌+◌, Bool, true, false, not, nat_eq, nat_le, IsTrue, List, [], ◌∷◌, ◌++◌, map, length, slice_index, refl, sym, ap, ◌∙◌, append_assoc, arith, codes, decimal}
 use Rattle.std.proofs.lemmas.Bool.Decides.{nat_tests}
 use Rattle.std.proofs.lemmas.Fmt.{decimal_injective}
 use Rattle.std.specs.Char.{is_ascii_digit}
@@ -73,11 +73,11 @@ drawn_are_words (suc n) h = (word_join (codes "+") (decimal (suc n)) refl (decim
 pub row_line_of_words : (row : Row) → IsRowWithinTypes row → AreWords (row_line row)
 row_line_of_words row h =
     let runs = AllByRecursion-append (λ w. IsTrue (is_word w)) (map run_word row.runs) (drawn_words row.drawn)
-        (AllByRecursion-map IsRunWithinTypes (λ w. IsTrue (is_word w)) run_word run_is_word row.runs h.runs) (drawn_are_words row.drawn h.drawn) in
+    (AllByRecursion-map IsRunWithinTypes (λ w. IsTrue (is_word w)) run_word run_is_word row.runs h.runs) (drawn_are_words row.drawn h.drawn) in
     let prints = AllByRecursion-append (λ w. IsTrue (is_word w)) (map decimal row.prints) (map run_word row.runs ++ drawn_words row.drawn)
-        (AllByRecursion-map IsWord (λ w. IsTrue (is_word w)) decimal decimal_word row.prints h.prints) runs in
+    (AllByRecursion-map IsWord (λ w. IsTrue (is_word w)) decimal decimal_word row.prints h.prints) runs in
     let rest = AllByRecursion-append (λ w. IsTrue (is_word w)) (result_words row.result) (map decimal row.prints ++ (map run_word row.runs ++ drawn_words row.drawn))
-        (results_are_words row.result h.result) prints in
+    (results_are_words row.result h.result) prints in
     let worker : IsWord row.worker = omega (arith, h.worker) in
     let number : IsWord row.number = omega (arith, h.number) in
     (decimal_word row.position h.position, (kind_is_word row.writer, (name_is_word row.worker row.number worker number, rest)))
@@ -98,7 +98,7 @@ no_points n h = list_all-weaker (λ b. is_ascii_digit b) no_point digit_no_point
 name_same : (v m w n : ℕ) → IsWord v → IsWord m → IsWord w → IsWord n → name_word v m ≡ name_word w n → (v ≡ w) × (m ≡ n)
 name_same v m w n a b c d e =
     let t = front_same no_point (decimal v) (decimal w) (46 ∷ decimal m) (46 ∷ decimal n) (no_points v a) (no_points w c) refl refl
-        (sym (append_assoc (decimal v) (codes ".") (decimal m)) ∙ e ∙ append_assoc (decimal w) (codes ".") (decimal n)) in
+    (sym (append_assoc (decimal v) (codes ".") (decimal m)) ∙ e ∙ append_assoc (decimal w) (codes ".") (decimal n)) in
     (decimal_injective v w a c t.0, decimal_injective m n b d (heads_same 46 46 (decimal m) (decimal n) t.1).1)
 
 -- the second letter of the first word, which tells results apart
@@ -142,12 +142,12 @@ no_colons Completion = refl
 run_same : (a b : HookPhase × ℕ) → IsRunWithinTypes a → IsRunWithinTypes b → run_word a ≡ run_word b → a ≡ b
 run_same a b h k e =
     let t = front_same no_colon (phase_word a.0) (phase_word b.0) (58 ∷ decimal a.1) (58 ∷ decimal b.1) (no_colons a.0) (no_colons b.0) refl refl
-        (sym (append_assoc (phase_word a.0) (codes ":") (decimal a.1)) ∙ e ∙ append_assoc (phase_word b.0) (codes ":") (decimal b.1)) in
+    (sym (append_assoc (phase_word a.0) (codes ":") (decimal a.1)) ∙ e ∙ append_assoc (phase_word b.0) (codes ":") (decimal b.1)) in
     let p = phase_same a.0 b.0 t.0 in
     let n = decimal_injective a.1 b.1 h k (heads_same 58 58 (decimal a.1) (decimal b.1) t.1).1 in
     by_parts a b p n where
-  by_parts : (a b : HookPhase × ℕ) → a.0 ≡ b.0 → a.1 ≡ b.1 → a ≡ b
-  by_parts a b p n = rw (p, n) refl
+      by_parts : (a b : HookPhase × ℕ) → a.0 ≡ b.0 → a.1 ≡ b.1 → a ≡ b
+      by_parts a b p n = rw (p, n) refl
 
 drawn_same : (m n : ℕ) → IsWord m → IsWord n → drawn_words m ≡ drawn_words n → m ≡ n
 drawn_same zero zero h k e = refl
@@ -194,11 +194,11 @@ row_same a b h k e =
     let name = name_same a.worker a.number b.worker b.number (omega (arith, h.worker)) (omega (arith, h.number)) (omega (arith, k.worker)) (omega (arith, k.number)) (cc) in
     let result = result_same a.result b.result _ _ h.result k.result (cc) in
     let prints = front_same all_digits (map decimal a.prints) (map decimal b.prints) (map run_word a.runs ++ drawn_words a.drawn) (map run_word b.runs ++ drawn_words b.drawn)
-        (all_pass IsWord all_digits decimal decimal_digits a.prints h.prints) (all_pass IsWord all_digits decimal decimal_digits b.prints k.prints)
-        (runs_stop_prints a.runs a.drawn) (runs_stop_prints b.runs b.drawn) result.1 in
+    (all_pass IsWord all_digits decimal decimal_digits a.prints h.prints) (all_pass IsWord all_digits decimal decimal_digits b.prints k.prints)
+    (runs_stop_prints a.runs a.drawn) (runs_stop_prints b.runs b.drawn) result.1 in
     let runs = front_same begins_low (map run_word a.runs) (map run_word b.runs) (drawn_words a.drawn) (drawn_words b.drawn)
-        (all_pass IsRunWithinTypes begins_low run_word run_begins_low a.runs h.runs) (all_pass IsRunWithinTypes begins_low run_word run_begins_low b.runs k.runs)
-        (drawn_stop_runs a.drawn) (drawn_stop_runs b.drawn) prints.1 in
+    (all_pass IsRunWithinTypes begins_low run_word run_begins_low a.runs h.runs) (all_pass IsRunWithinTypes begins_low run_word run_begins_low b.runs k.runs)
+    (drawn_stop_runs a.drawn) (drawn_stop_runs b.drawn) prints.1 in
     by_fields a b (decimal_injective a.position b.position h.position k.position position) (kind_same a.writer b.writer kind) name.0 name.1 result.0
-        (map_same IsWord decimal decimal_injective a.prints b.prints h.prints k.prints prints.0) (map_same IsRunWithinTypes run_word run_same a.runs b.runs h.runs k.runs runs.0)
-        (drawn_same a.drawn b.drawn h.drawn k.drawn runs.1)
+    (map_same IsWord decimal decimal_injective a.prints b.prints h.prints k.prints prints.0) (map_same IsRunWithinTypes run_word run_same a.runs b.runs h.runs k.runs runs.0)
+    (drawn_same a.drawn b.drawn h.drawn k.drawn runs.1)

@@ -1,5 +1,5 @@
 -- A line that is put down word by word.
-use Rattle.std.proofs.Common.{◌≡◌, ℕ, List, [], ◌∷◌, ◌++◌, refl, sym, ap, ◌∙◌, append_assoc}
+use Rattle.std.proofs.Common.{◌≡◌, ℕ, List, [], ◌∷◌, ◌++◌, sym, ap, ◌∙◌, append_assoc}
 use Rattle.text_lines.specs.Lines.{Row as Line, line_of, spaced}
 use Rattle.text_lines.proofs.LineLemmas.{line_by_words, spaced-append}
 

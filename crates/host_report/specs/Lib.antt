@@ -1,3 +1,3 @@
 pub mod OneText
-pub mod Shown
+pub mod OnlyRowsAndRefs
 pub mod WithinTypes

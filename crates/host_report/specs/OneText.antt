@@ -1,7 +1,6 @@
 -- The text of a listing fixes it.
 use Rattle.std.specs.Prelude.{◌≡◌}
 use Rattle.stm_model.specs.declared.settings.Settings.{Settings}
-use Rattle.ledger_model.specs.declared.job.Contents.{Contents}
 use Rattle.ledger_model.specs.declared.job.Job.{Job}
 use Rattle.ledger_model.specs.declared.listing.Listing.{Listing}
 use Rattle.ledger_model.specs.Replays.{Replays}

@@ -1,82 +1,14 @@
-//! The lines of a report, one kind after the other.
+//! The report of a listing, and tests of its form.
 
-ghost use Rattle.std.specs.Prelude.{◌≡◌, ◌++◌, ◌∷◌, [], codes, map, IfOk, OnOk};
-ghost use Rattle.text_lines.specs.Lines.{line_of, text_of};
-ghost use Rattle.ledger_model.specs.Report.{closing_lines, count_line, ref_line, ref_lines, report, row_line};
-ghost use Rattle.host_report.specs.Shown.{HasOnlyRowsAndRefs};
-ghost use Rattle.host_report.specs.WithinTypes.{EachWithin, IsWord, IsRowWithinTypes, IsWithinTypes};
+ghost use Rattle.std.specs.Prelude.{◌≡◌, IfOk, OnOk};
+ghost use Rattle.ledger_model.specs.Report.{report};
+ghost use Rattle.host_report.specs.OnlyRowsAndRefs.{HasOnlyRowsAndRefs};
+ghost use Rattle.host_report.specs.WithinTypes.{IsWithinTypes};
 
-use crate::row::put_row;
-use ledger_model::{Listing, Rows};
+use crate::lines::put_report;
+use ledger_model::Listing;
 use std::alloc::Global;
-use stm_model::{Memory, Words};
-use text_lines::{end_line, put, put_number_word, put_word};
-
-fn put_head(text: &mut Vec<u8>) -> Result<(), text_lines::Memory>
-    ensures { OnOk result (text.new.items ≡ text.old.items ++ line_of (codes "ledger" ∷ codes "1" ∷ [])) }
-{
-    put(text, b"ledger")?;
-    put_word(text, b"1")?;
-    end_line(text)
-}
-
-fn put_rows(text: &mut Vec<u8>, rows: &Rows) -> Result<(), text_lines::Memory>
-    ensures text { OnOk result (text.new.items ≡ text.old.items ++ text_of (map row_line rows.now)) }
-    ensures within { OnOk result (EachWithin IsRowWithinTypes rows.now) }
-{
-    for row in rows.as_slice() {
-        put_row(text, row)?;
-    }
-    Ok(())
-}
-
-fn put_ref(text: &mut Vec<u8>, index: usize, value: u64) -> Result<(), text_lines::Memory>
-    ensures { OnOk result (text.new.items ≡ text.old.items ++ line_of (ref_line (index, value))) }
-{
-    put(text, b"ref")?;
-    put_number_word(text, index as u64)?;
-    put_number_word(text, value)?;
-    end_line(text)
-}
-
-fn put_refs(text: &mut Vec<u8>, refs: &Words) -> Result<(), text_lines::Memory>
-    ensures text { OnOk result (text.new.items ≡ text.old.items ++ text_of (ref_lines refs.now)) }
-    ensures within { OnOk result (EachWithin IsWord refs.now) }
-{
-    for (index, value) in refs.as_slice().iter().enumerate() {
-        put_ref(text, index, *value)?;
-    }
-    Ok(())
-}
-
-fn put_count(text: &mut Vec<u8>, word: &[u8], count: u64) -> Result<(), text_lines::Memory>
-    ensures { OnOk result (text.new.items ≡ text.old.items ++ line_of (count_line word.now count)) }
-{
-    put(text, word)?;
-    put_number_word(text, count)?;
-    end_line(text)
-}
-
-/// Appends what stands behind the rows.
-fn put_closing(text: &mut Vec<u8>, listing: &Listing) -> Result<(), text_lines::Memory>
-    ensures text { OnOk result (text.new.items ≡ text.old.items ++ text_of (closing_lines listing.now)) }
-    ensures refs { OnOk result (EachWithin IsWord listing.now.contents.refs) }
-    ensures used { OnOk result (IsWord listing.now.contents.used) }
-{
-    let used = listing.contents.used;
-    put_refs(text, &listing.contents.refs)?;
-    put_count(text, b"used", used)?;
-    put_count(text, b"done", listing.rows.len() as u64)
-}
-
-fn put_report(text: &mut Vec<u8>, listing: &Listing) -> Result<(), text_lines::Memory>
-    ensures text { OnOk result (text.new.items ≡ text.old.items ++ report listing.now) }
-    ensures within { OnOk result (IsWithinTypes listing.now) }
-{
-    put_head(text)?;
-    put_rows(text, &listing.rows)?;
-    put_closing(text, listing)
-}
+use stm_model::Memory;
 
 /// The report of a listing, made whole in memory.
 pub fn report_text(alloc: Global, listing: &Listing) -> Result<Vec<u8>, Memory>
@@ -94,11 +26,11 @@ pub fn report_text(alloc: Global, listing: &Listing) -> Result<Vec<u8>, Memory>
 #[cfg(test)]
 mod tests {
     use super::*;
-    use ledger_model::{Contents, Names, PairLists, RolledList, Row, RowResult};
+    use ledger_model::{Contents, Names, PairLists, RolledList, Row, RowResult, Rows};
     use std::alloc::AllocError;
     use std::test::Fail;
     use stm_model::HookPhase::{Commit, Committing, Completion, Preparing, Rollback};
-    use stm_model::Runs;
+    use stm_model::{Runs, Words};
 
     fn listing_of(alloc: Global, rows: Rows, refs: Words, used: u64) -> Listing
         ensures { HasOnlyRowsAndRefs result }
@@ -118,7 +50,12 @@ mod tests {
     }
 
     fn committed(alloc: Global) -> Result<Row, AllocError> {
-        let runs = vec![in alloc; (Preparing, 1), (Committing, 2), (Commit, 3), (Completion, 4)]?;
+        let runs = vec![in alloc;
+            (Preparing, 1),
+            (Committing, 2),
+            (Commit, 3),
+            (Completion, 4),
+        ]?;
         Ok(Row {
             position: 1,
             writer: true,
@@ -148,7 +85,10 @@ mod tests {
     fn a_report_has_rows_then_references_then_counts(rt: HostRuntime) -> Result<(), Fail> {
         let alloc = rt.alloc();
         let undone = Runs::from(vec![in alloc; (Rollback, u64::MAX)]?);
-        let full = RowResult::Full { used: 3, allowance: 4 };
+        let full = RowResult::Full {
+            used: 3,
+            allowance: 4,
+        };
         let mut rows = Rows::new(alloc);
         rows.push(committed(alloc)?)?;
         rows.push(unwritten(alloc, 1, RowResult::Done, Runs::new(alloc)))?;

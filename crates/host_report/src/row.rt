@@ -1,4 +1,4 @@
-//! The line of a row. What stands behind its first word is put down word by word, each behind a space.
+//! The line of a row: its first word, and then word by word the others, each behind a space.
 
 ghost use Rattle.std.specs.Prelude.{◌≡◌, ◌++◌, ◌∷◌, [], codes, decimal, map, OnOk};
 ghost use Rattle.std.specs.List.{AllByRecursion};

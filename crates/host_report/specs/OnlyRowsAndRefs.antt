@@ -1,6 +1,5 @@
 -- Listings whose lines are all built: rows and references.
 use Rattle.std.specs.Prelude.{◌≡◌, []}
-use Rattle.ledger_model.specs.declared.job.Contents.{Contents}
 use Rattle.ledger_model.specs.declared.listing.Listing.{Listing}
 
 -- No attempt was rolled back, every script is settled, and there are no maps and no slots.

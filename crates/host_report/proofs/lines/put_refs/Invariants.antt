@@ -2,7 +2,7 @@ use Rattle.std.proofs.Common.{◌≡◌, ◌++◌, drop, map}
 use Rattle.std.specs.List.{enumerate_from}
 use Rattle.text_lines.specs.Lines.{text_of}
 use Rattle.ledger_model.specs.Report.{ref_line, ref_lines}
-use Rattle.host_report.proofs.report.put_refs.Given as goal
+use Rattle.host_report.proofs.lines.put_refs.Given as goal
 
 abbrev pub invariant-loop-index : goal.invariant-loop-index
 invariant-loop-index l =
