@@ -1,0 +1,3 @@
+pub mod OneText
+pub mod OnlyRowsAndRefs
+pub mod WithinTypes
