@@ -1,2 +1,8 @@
-//! To be written.
+//! The whole program but for its real streams: words, a source and a sink, and an answer.
 #![tactic(auto)]
+
+mod host;
+mod settings;
+mod words;
+
+pub use host::{HostStatus, host_plain};

@@ -1,0 +1,95 @@
+-- When each answer of the top call comes, and what it leaves.
+use Rattle.std.specs.Prelude.{◌≡◌, ◌⊎◌, ◌+◌, ◌<◌, ◌≤◌, ℕ, List, Option, Some, None, length}
+use Rattle.std.specs.Io.KnownBytes.{Appends}
+use Rattle.stm_io.specs.Faults.{Rose}
+use Rattle.stm_io.specs.Whole.{AppendedProperFront, TookAll, TookCount, most_bytes}
+use Rattle.ledger_model.specs.declared.job.Job.{Job}
+use Rattle.ledger_model.specs.declared.listing.Listing.{Listing}
+use Rattle.ledger_model.specs.declared.reason.Reason.{Reason}
+use Rattle.ledger_model.specs.declared.reason.Reason.TheVariants.{Long, Unbuilt}
+use Rattle.ledger_model.specs.Replays.{Replays}
+use Rattle.ledger_model.specs.Report.{report}
+use Rattle.ledger_model.specs.Turns.{InTurns}
+use Rattle.host_report.specs.WithinTypes.{IsWithinTypes}
+use Rattle.script_text.specs.Form.{IsTextOf}
+use Rattle.ledger_host.specs.Settings.{default_settings}
+use Rattle.ledger_host.specs.Words.{AsksTrace}
+use Rattle.ledger_host.specs.declared.host.HostStatus.{HostStatus}
+use Rattle.ledger_host.specs.declared.host.HostStatus.TheVariants.{Done, Usage, Script, ReadFault, WriteFault, Memory}
+
+-- The text is a job's, and these bytes are the report of a listing that replays this job, its workers one after another.
+pub record IsReportOf (text bytes : List ℕ) : Type 0 where
+  pub job : Job
+  pub listing : Listing
+  pub text_of_job : IsTextOf text job
+  pub replays : Replays job (default_settings job) listing
+  pub in_turns : InTurns listing.rows
+  pub within : IsWithinTypes listing
+  pub report_is : bytes ≡ report listing
+
+-- The source was read to its end, and these bytes are the report of the job that it had.
+pub record HasReport (before after : Option (List ℕ)) (bytes : List ℕ) : Type 0 where
+  pub text : List ℕ
+  pub all : TookAll before after text
+  pub within : length text ≤ most_bytes
+  pub report_of_text : IsReportOf text bytes
+
+-- ---- refusals: of a text, and of what was taken of a source, which is less than its text where that is too long
+
+-- The text is no job's. In this form of the job language no line is named.
+pub record IsNoJob (text : List ℕ) (line : ℕ) (reason : Reason) : Type 0 where
+  pub no_job : (job : Job) → IsTextOf text job → ⊥
+  pub line_is : line ≡ 0
+  pub reason_is : reason ≡ Unbuilt
+
+-- The source gave one byte more than a text may have.
+pub record IsTooLong (before after : Option (List ℕ)) (line : ℕ) (reason : Reason) : Type 0 where
+  pub taken : TookCount before after (most_bytes + 1)
+  pub line_is : line ≡ 0
+  pub reason_is : reason ≡ Long
+
+-- The source was read to its end, and its text is no job's.
+pub record HasNoJob (before after : Option (List ℕ)) (line : ℕ) (reason : Reason) : Type 0 where
+  pub text : List ℕ
+  pub all : TookAll before after text
+  pub within : length text ≤ most_bytes
+  pub refused : IsNoJob text line reason
+
+-- the text is too long or no job's, so it is refused on this line for this reason
+abbrev pub IsRefusedText : List ℕ → ℕ → Reason → Type 0
+IsRefusedText text line reason =
+    ((most_bytes < length text) × (line ≡ 0) × (reason ≡ Long)) ⊎ ((length text ≤ most_bytes) × IsNoJob text line reason)
+
+-- The source tells its bytes, and they are a job's text.
+pub record TellsJob (told : Option (List ℕ)) : Type 0 where
+  pub text : List ℕ
+  pub job : Job
+  pub told_is : told ≡ Some text
+  pub within : length text ≤ most_bytes
+  pub text_of_job : IsTextOf text job
+
+-- The source tells its bytes, and they are refused on this line for this reason.
+pub record TellsNoJob (told : Option (List ℕ)) (line : ℕ) (reason : Reason) : Type 0 where
+  pub text : List ℕ
+  pub told_is : told ≡ Some text
+  pub refused : IsRefusedText text line reason
+
+abbrev pub IsRefused : Option (List ℕ) → Option (List ℕ) → ℕ → Reason → Type 0
+IsRefused before after line reason = IsTooLong before after line reason ⊎ HasNoJob before after line reason
+
+-- Each answer's cause, and what it leaves in the source and in the sink.
+abbrev pub Answers : {S K : Type 0} → (S → Option (List ℕ)) → (S → ℕ) → (K → Option (List ℕ)) → (K → ℕ)
+    → List (List ℕ) → S → S → K → K → HostStatus → Type 0
+Answers left read_faults held write_faults words source source_after sink sink_after Done =
+    AsksTrace words × ((bytes : List ℕ) × HasReport (left source) (left source_after) bytes × Appends (held sink) (held sink_after) bytes)
+Answers left read_faults held write_faults words source source_after sink sink_after Usage =
+    (AsksTrace words → ⊥) × (source_after ≡ source) × (sink_after ≡ sink)
+Answers left read_faults held write_faults words source source_after sink sink_after (Script line reason) =
+    AsksTrace words × IsRefused (left source) (left source_after) line reason × (sink_after ≡ sink)
+Answers left read_faults held write_faults words source source_after sink sink_after ReadFault =
+    AsksTrace words × Rose (read_faults source) (read_faults source_after) × (sink_after ≡ sink)
+Answers left read_faults held write_faults words source source_after sink sink_after WriteFault =
+    AsksTrace words
+    × ((bytes : List ℕ) × HasReport (left source) (left source_after) bytes × AppendedProperFront (held sink) (held sink_after) bytes)
+    × Rose (write_faults sink) (write_faults sink_after)
+Answers left read_faults held write_faults words source source_after sink sink_after Memory = AsksTrace words × (sink_after ≡ sink)

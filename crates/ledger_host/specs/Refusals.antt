@@ -1,0 +1,25 @@
+-- Why there is no report.
+use Rattle.std.specs.Prelude.{ℕ, List, Option}
+use Rattle.stm_io.specs.Faults.{Rose}
+use Rattle.script_text.specs.declared.read.ParseFault.{ParseFault}
+use Rattle.script_text.specs.declared.read.ParseFault.TheVariants as parsing
+use Rattle.ledger_host.specs.Answers.{IsNoJob, IsRefused}
+use Rattle.ledger_host.specs.declared.host.Refusal.{Refusal}
+use Rattle.ledger_host.specs.declared.host.Refusal.TheVariants.{Script, ReadFault, Memory}
+
+-- the same refusal as the reader of job texts gave
+abbrev pub refusal_of : ParseFault → Refusal
+refusal_of (parsing.Script line reason) = Script line reason
+refusal_of parsing.Memory = Memory
+
+-- of a text that was read
+abbrev pub IsRefusalOf : List ℕ → Refusal → Type 0
+IsRefusalOf text (Script line reason) = IsNoJob text line reason
+IsRefusalOf text ReadFault = ⊥
+IsRefusalOf text Memory = Unit {0}
+
+-- of what a source had, before and after, with its counts of faults
+abbrev pub IsRefusalFrom : Option (List ℕ) → Option (List ℕ) → ℕ → ℕ → Refusal → Type 0
+IsRefusalFrom before after faults_before faults_after (Script line reason) = IsRefused before after line reason
+IsRefusalFrom before after faults_before faults_after ReadFault = Rose faults_before faults_after
+IsRefusalFrom before after faults_before faults_after Memory = Unit {0}

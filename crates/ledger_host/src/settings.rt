@@ -1,0 +1,26 @@
+//! The settings of a run that no words change.
+ghost use Rattle.std.specs.Prelude.{◌≡◌, ◌<◌, ◌^◌, length};
+ghost use Rattle.ledger_host.specs.Settings.{default_settings};
+
+use ledger_model::Job;
+use stm_model::{Policy, Settings};
+
+// The greatest version that a metadata word holds.
+const CLOCK: u64 = 2_251_799_813_685_247;
+
+const TRIES: u16 = 3;
+
+const ATTEMPTS: u64 = 1_000_000;
+
+pub(crate) fn default_settings(job: &Job) -> Settings
+    requires { length job.now.workers < 2 ^ 16 }
+    ensures { result ≡ default_settings job.now }
+{
+    Settings {
+        callers: (job.workers.len() as u16).max(1),
+        policy: Policy::Look(0),
+        tries: TRIES,
+        clock: CLOCK,
+        attempts: ATTEMPTS,
+    }
+}
