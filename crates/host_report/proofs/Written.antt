@@ -1,23 +1,16 @@
--- A line that is put down word by word.
-use Rattle.std.proofs.Common.{◌≡◌, ℕ, List, [], ◌∷◌, ◌++◌, sym, ap, ◌∙◌, append_assoc}
+-- The line of a row, put word by word.
+use Rattle.std.proofs.Common.{◌≡◌, ℕ, List, [], ◌∷◌, ◌++◌}
 use Rattle.text_lines.specs.Lines.{Row as Line, line_of, spaced}
-use Rattle.text_lines.proofs.LineLemmas.{line_by_words, spaced-append}
+use Rattle.text_lines.proofs.PutLemmas.{row_put, words_put, word_put}
 
--- what stands behind the name, part by part
-spaced-parts : (result prints runs drawn : Line) → spaced (result ++ (prints ++ (runs ++ drawn))) ≡ spaced result ++ (spaced prints ++ (spaced runs ++ spaced drawn))
-spaced-parts result prints runs drawn =
-    spaced-append result (prints ++ (runs ++ drawn)) ∙ ap (λ (l : List ℕ). spaced result ++ l)
-    (spaced-append prints (runs ++ drawn) ∙ ap (λ (l : List ℕ). spaced prints ++ l) (spaced-append runs drawn))
-
-regroup : (t p k n r ps rs d z : List ℕ) → t ++ p ++ k ++ n ++ r ++ ps ++ rs ++ d ++ z ≡ t ++ (p ++ (k ++ (n ++ (r ++ (ps ++ (rs ++ d))))) ++ z)
-regroup t p k n r ps rs d z = simp append_assoc
-
--- the line of a row, after each of its parts was put behind the text
+-- the texts after each part, and the line
 pub row_written : (text position kind name : List ℕ) (result prints runs drawn : Line) (a b c d e f g h : List ℕ)
     → a ≡ text ++ position → b ≡ a ++ 32 ∷ kind → c ≡ b ++ 32 ∷ name → d ≡ c ++ spaced result → e ≡ d ++ spaced prints → f ≡ e ++ spaced runs → g ≡ f ++ spaced drawn → h ≡ g ++ 10 ∷ []
     → h ≡ text ++ line_of (position ∷ kind ∷ name ∷ (result ++ (prints ++ (runs ++ drawn))))
 row_written text position kind name result prints runs drawn a b c d e f g h p q r s t u v w =
-    rw (w, v, u, t, s, r, q, p)
-    (regroup text position (32 ∷ kind) (32 ∷ name) (spaced result) (spaced prints) (spaced runs) (spaced drawn) (10 ∷ [])
-    ∙ ap (λ (l : List ℕ). text ++ (position ++ ((32 ∷ kind) ++ ((32 ∷ name) ++ l)) ++ 10 ∷ [])) (sym (spaced-parts result prints runs drawn))
-    ∙ ap (λ (l : List ℕ). text ++ l) (sym (line_by_words position (kind ∷ name ∷ (result ++ (prints ++ (runs ++ drawn)))))))
+    let behind_prints = words_put e f g runs drawn u v in
+    let behind_result = words_put d e g prints (runs ++ drawn) t behind_prints in
+    let behind_name = words_put c d g result (prints ++ (runs ++ drawn)) s behind_result in
+    let behind_kind = word_put b c g name (result ++ (prints ++ (runs ++ drawn))) r behind_name in
+    let behind_position = word_put a b g kind (name ∷ (result ++ (prints ++ (runs ++ drawn)))) q behind_kind in
+    row_put text a g h position (kind ∷ name ∷ (result ++ (prints ++ (runs ++ drawn)))) p behind_position w

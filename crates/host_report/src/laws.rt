@@ -2,7 +2,8 @@
 //! whose numbers are within their types.
 
 ghost use Rattle.std.specs.Prelude.{◌≡◌, ◌↔◌, map};
-ghost use Rattle.text_lines.specs.Lines.{lines, words};
+ghost use Rattle.std.specs.List.{AllByRecursion};
+ghost use Rattle.text_lines.specs.Lines.{AreWords, lines, words};
 ghost use Rattle.ledger_model.specs.declared.listing.Listing.{Listing};
 ghost use Rattle.ledger_model.specs.Report.{report, report_lines};
 ghost use Rattle.host_report.specs.OneText.{ShowSame, TextFixesListing};
@@ -19,8 +20,11 @@ pub fn text_fixes_what_it_shows()
         (report a ≡ report b) ↔ ShowSame a b }
 {}
 
-/// A report can be read: the words of its lines are the rows of words that it was made of.
+/// Each line of a report is a row of words, so a report can be read: the words of its lines are
+/// the rows of words that it was made of.
 pub fn lines_come_back()
-    ensures { (listing : Listing) → IsWithinTypes listing →
+    ensures words { (listing : Listing) → IsWithinTypes listing →
+        AllByRecursion AreWords (report_lines listing) }
+    ensures again { (listing : Listing) → IsWithinTypes listing →
         map words (lines (report listing)) ≡ report_lines listing }
 {}
