@@ -7,16 +7,17 @@ ghost use Rattle.host_report.specs.WithinTypes.{EachWithin, IsWord, IsRowWithinT
 
 use crate::row::put_row;
 use ledger_model::{Listing, Rows};
+use std::alloc::AllocError;
 use stm_model::Words;
-use text_lines::{Memory, end_line, put, put_number_word};
+use text_lines::{end_line, put, put_number_word};
 
-fn put_head(text: &mut Vec<u8>) -> Result<(), Memory>
+fn put_head(text: &mut Vec<u8>) -> Result<(), AllocError>
     ensures { OnOk result (text.new.items ≡ text.old.items ++ line_of (codes "ledger" ∷ codes "1" ∷ [])) }
 {
     put(text, b"ledger 1\n")
 }
 
-fn put_rows(text: &mut Vec<u8>, rows: &Rows) -> Result<(), Memory>
+fn put_rows(text: &mut Vec<u8>, rows: &Rows) -> Result<(), AllocError>
     ensures text { OnOk result (text.new.items ≡ text.old.items ++ text_of (map row_line rows.now)) }
     ensures within { OnOk result (EachWithin IsRowWithinTypes rows.now) }
 {
@@ -26,7 +27,7 @@ fn put_rows(text: &mut Vec<u8>, rows: &Rows) -> Result<(), Memory>
     Ok(())
 }
 
-fn put_ref(text: &mut Vec<u8>, index: usize, value: u64) -> Result<(), Memory>
+fn put_ref(text: &mut Vec<u8>, index: usize, value: u64) -> Result<(), AllocError>
     ensures { OnOk result (text.new.items ≡ text.old.items ++ line_of (ref_line (index, value))) }
 {
     put(text, b"ref")?;
@@ -35,7 +36,7 @@ fn put_ref(text: &mut Vec<u8>, index: usize, value: u64) -> Result<(), Memory>
     end_line(text)
 }
 
-fn put_refs(text: &mut Vec<u8>, refs: &Words) -> Result<(), Memory>
+fn put_refs(text: &mut Vec<u8>, refs: &Words) -> Result<(), AllocError>
     ensures text { OnOk result (text.new.items ≡ text.old.items ++ text_of (ref_lines refs.now)) }
     ensures within { OnOk result (EachWithin IsWord refs.now) }
 {
@@ -45,7 +46,7 @@ fn put_refs(text: &mut Vec<u8>, refs: &Words) -> Result<(), Memory>
     Ok(())
 }
 
-fn put_count(text: &mut Vec<u8>, word: &[u8], count: u64) -> Result<(), Memory>
+fn put_count(text: &mut Vec<u8>, word: &[u8], count: u64) -> Result<(), AllocError>
     ensures { OnOk result (text.new.items ≡ text.old.items ++ line_of (count_line word.now count)) }
 {
     put(text, word)?;
@@ -54,7 +55,7 @@ fn put_count(text: &mut Vec<u8>, word: &[u8], count: u64) -> Result<(), Memory>
 }
 
 /// Appends what stands behind the rows.
-fn put_closing(text: &mut Vec<u8>, listing: &Listing) -> Result<(), Memory>
+fn put_closing(text: &mut Vec<u8>, listing: &Listing) -> Result<(), AllocError>
     ensures text { OnOk result (text.new.items ≡ text.old.items ++ text_of (closing_lines listing.now)) }
     ensures refs { OnOk result (EachWithin IsWord listing.now.contents.refs) }
     ensures used { OnOk result (IsWord listing.now.contents.used) }
@@ -66,7 +67,7 @@ fn put_closing(text: &mut Vec<u8>, listing: &Listing) -> Result<(), Memory>
 }
 
 /// Appends the whole report.
-pub fn put_report(text: &mut Vec<u8>, listing: &Listing) -> Result<(), Memory>
+pub fn put_report(text: &mut Vec<u8>, listing: &Listing) -> Result<(), AllocError>
     ensures text { OnOk result (text.new.items ≡ text.old.items ++ report listing.now) }
     ensures within { OnOk result (IsWithinTypes listing.now) }
 {

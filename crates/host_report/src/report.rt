@@ -17,10 +17,8 @@ pub fn report_text(alloc: Global, listing: &Listing) -> Result<Vec<u8>, Memory>
     ensures within { OnOk result (IsWithinTypes listing.now) }
 {
     let mut text = Vec::new(alloc);
-    match put_report(&mut text, listing) {
-        Ok(()) => Ok(text),
-        Err(_) => Err(Memory),
-    }
+    put_report(&mut text, listing)?;
+    Ok(text)
 }
 
 #[cfg(test)]

@@ -7,10 +7,11 @@ ghost use Rattle.ledger_model.specs.Report.{drawn_words, kind_word, name_word, p
 ghost use Rattle.host_report.specs.WithinTypes.{IsWord, IsResultWithinTypes, IsRunWithinTypes, IsRowWithinTypes};
 
 use ledger_model::{Row, RowResult};
+use std::alloc::AllocError;
 use stm_model::{HookPhase, Runs, Words};
-use text_lines::{Memory, end_line, put, put_number, put_number_word, put_word};
+use text_lines::{end_line, put, put_number, put_number_word, put_word};
 
-fn put_kind(text: &mut Vec<u8>, writer: bool) -> Result<(), Memory>
+fn put_kind(text: &mut Vec<u8>, writer: bool) -> Result<(), AllocError>
     ensures { OnOk result (text.new.items ≡ text.old.items ++ 32 ∷ kind_word writer) }
 {
     if writer {
@@ -32,7 +33,7 @@ fn phase_word(phase: HookPhase) -> &'static [u8]
     }
 }
 
-fn put_name(text: &mut Vec<u8>, worker: u16, number: u32) -> Result<(), Memory>
+fn put_name(text: &mut Vec<u8>, worker: u16, number: u32) -> Result<(), AllocError>
     ensures { OnOk result (text.new.items ≡ text.old.items ++ 32 ∷ name_word worker number) }
 {
     put_number_word(text, u64::from(worker))?;
@@ -40,7 +41,7 @@ fn put_name(text: &mut Vec<u8>, worker: u16, number: u32) -> Result<(), Memory>
     put_number(text, u64::from(number))
 }
 
-fn put_result(text: &mut Vec<u8>, outcome: RowResult) -> Result<(), Memory>
+fn put_result(text: &mut Vec<u8>, outcome: RowResult) -> Result<(), AllocError>
     ensures text { OnOk result (text.new.items ≡ text.old.items ++ spaced (result_words outcome)) }
     ensures within { OnOk result (IsResultWithinTypes outcome) }
 {
@@ -59,7 +60,7 @@ fn put_result(text: &mut Vec<u8>, outcome: RowResult) -> Result<(), Memory>
     }
 }
 
-fn put_prints(text: &mut Vec<u8>, prints: &Words) -> Result<(), Memory>
+fn put_prints(text: &mut Vec<u8>, prints: &Words) -> Result<(), AllocError>
     ensures text { OnOk result (text.new.items ≡ text.old.items ++ spaced (map decimal prints.now)) }
     ensures within { OnOk result (AllByRecursion IsWord prints.now) }
 {
@@ -69,7 +70,7 @@ fn put_prints(text: &mut Vec<u8>, prints: &Words) -> Result<(), Memory>
     Ok(())
 }
 
-fn put_run(text: &mut Vec<u8>, phase: HookPhase, token: u64) -> Result<(), Memory>
+fn put_run(text: &mut Vec<u8>, phase: HookPhase, token: u64) -> Result<(), AllocError>
     ensures { OnOk result (text.new.items ≡ text.old.items ++ 32 ∷ run_word (phase, token)) }
 {
     put_word(text, phase_word(phase))?;
@@ -77,7 +78,7 @@ fn put_run(text: &mut Vec<u8>, phase: HookPhase, token: u64) -> Result<(), Memor
     put_number(text, token)
 }
 
-fn put_runs(text: &mut Vec<u8>, runs: &Runs) -> Result<(), Memory>
+fn put_runs(text: &mut Vec<u8>, runs: &Runs) -> Result<(), AllocError>
     ensures text { OnOk result (text.new.items ≡ text.old.items ++ spaced (map run_word runs.now)) }
     ensures within { OnOk result (AllByRecursion IsRunWithinTypes runs.now) }
 {
@@ -87,7 +88,7 @@ fn put_runs(text: &mut Vec<u8>, runs: &Runs) -> Result<(), Memory>
     Ok(())
 }
 
-fn put_drawn(text: &mut Vec<u8>, drawn: u64) -> Result<(), Memory>
+fn put_drawn(text: &mut Vec<u8>, drawn: u64) -> Result<(), AllocError>
     ensures { OnOk result (text.new.items ≡ text.old.items ++ spaced (drawn_words drawn)) }
 {
     if drawn == 0 {
@@ -98,7 +99,7 @@ fn put_drawn(text: &mut Vec<u8>, drawn: u64) -> Result<(), Memory>
 }
 
 /// Appends the line of a row.
-pub fn put_row(text: &mut Vec<u8>, row: &Row) -> Result<(), Memory>
+pub fn put_row(text: &mut Vec<u8>, row: &Row) -> Result<(), AllocError>
     ensures text { OnOk result (text.new.items ≡ text.old.items ++ line_of (row_line row.now)) }
     ensures within { OnOk result (IsRowWithinTypes row.now) }
 {
