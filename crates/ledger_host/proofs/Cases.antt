@@ -6,9 +6,12 @@ use Rattle.stm_io.specs.Whole.{TookAll, TookCount, most_bytes}
 use Rattle.ledger_model.specs.declared.job.Job.{Job}
 use Rattle.ledger_model.specs.declared.reason.Reason.{Reason}
 use Rattle.ledger_model.specs.declared.reason.Reason.TheVariants.{Long, Unbuilt}
-use Rattle.script_text.specs.Form.{IsTextOf}
+use Rattle.script_text.specs.Form.{HasNoJob, IsTextOf}
+use Rattle.script_text.specs.declared.job_text.ParseFault.{ParseFault}
+use Rattle.script_text.specs.declared.job_text.ParseFault.TheVariants as parsing
+use Rattle.ledger_host.specs.Refusals.{IsRefusalOf, refusal_of}
 use Rattle.ledger_host.specs.Words.{AsksTrace}
-use Rattle.ledger_host.specs.Answers.{Answers, HasNoJob, HasReport, IsNoJob, IsRefused, IsRefusedText, IsTooLong, TellsJob, TellsNoJob}
+use Rattle.ledger_host.specs.Answers.{Answers, HasReport, IsNoJob, IsRefused, IsRefusedText, TookTooMany, TellsJob, TellsNoJob}
 use Rattle.ledger_host.specs.declared.host.HostStatus.{HostStatus}
 use Rattle.ledger_host.specs.declared.host.HostStatus.TheVariants.{Done, Usage, Script, ReadFault, WriteFault, Memory}
 
@@ -29,7 +32,7 @@ no_more told (Some rest) n took =
     let long : length told ≡ length took.bytes + length rest = ap length took.taken ∙ length-append took.bytes rest in
     omega (arith, took.count)
 
-not_too_long : (told : List ℕ) (before after : Option (List ℕ)) (line : ℕ) (reason : Reason) → before ≡ Some told → length told ≤ most_bytes → IsTooLong before after line reason → ⊥
+not_too_long : (told : List ℕ) (before after : Option (List ℕ)) (line : ℕ) (reason : Reason) → before ≡ Some told → length told ≤ most_bytes → TookTooMany before after line reason → ⊥
 not_too_long told before after line reason is few long =
     let more = no_more told after (most_bytes + 1) (subst (λ b. TookCount b after (most_bytes + 1)) is long.taken) in
     absurd (omega arith)
@@ -62,6 +65,13 @@ not_refused : (before after : Option (List ℕ)) (line : ℕ) (reason : Reason) 
 not_refused before after line reason told (inl long) = not_too_long told.text before after line reason told.told_is told.within long
 not_refused before after line reason told (inr none) =
     none.refused.no_job told.job (subst (λ t. IsTextOf t told.job) (all_told told.text none.text before after told.told_is none.all) told.text_of_job)
+
+-- what the reader of job texts refuses is explained
+pub refusal_of-explained : (text : List ℕ) (fault : ParseFault) → (fault ≡ parsing.Script 0 Unbuilt) ⊎ (fault ≡ parsing.Memory) → (fault ≡ parsing.Script 0 Unbuilt → HasNoJob text)
+    → IsRefusalOf text (refusal_of fault)
+refusal_of-explained text fault (inl is) none =
+    subst (λ (f : ParseFault). IsRefusalOf text (refusal_of f)) (sym is) (record { no_job = none is; line_is = refl; reason_is = refl })
+refusal_of-explained text fault (inr is) none = subst (λ (f : ParseFault). IsRefusalOf text (refusal_of f)) (sym is) tt
 
 -- ---- the clauses
 

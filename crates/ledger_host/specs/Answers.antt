@@ -11,7 +11,7 @@ use Rattle.ledger_model.specs.Replays.{Replays}
 use Rattle.ledger_model.specs.Report.{report}
 use Rattle.ledger_model.specs.Turns.{InTurns}
 use Rattle.host_report.specs.WithinTypes.{IsWithinTypes}
-use Rattle.script_text.specs.Form.{IsTextOf}
+use Rattle.script_text.specs.Form.{HasNoJob, IsTextOf}
 use Rattle.ledger_host.specs.Settings.{default_settings}
 use Rattle.ledger_host.specs.Words.{AsksTrace}
 use Rattle.ledger_host.specs.declared.host.HostStatus.{HostStatus}
@@ -38,18 +38,18 @@ pub record HasReport (before after : Option (List ℕ)) (bytes : List ℕ) : Typ
 
 -- The text is no job's. In this form of the job language no line is named.
 pub record IsNoJob (text : List ℕ) (line : ℕ) (reason : Reason) : Type 0 where
-  pub no_job : (job : Job) → IsTextOf text job → ⊥
+  pub no_job : HasNoJob text
   pub line_is : line ≡ 0
   pub reason_is : reason ≡ Unbuilt
 
 -- The source gave one byte more than a text may have.
-pub record IsTooLong (before after : Option (List ℕ)) (line : ℕ) (reason : Reason) : Type 0 where
+pub record TookTooMany (before after : Option (List ℕ)) (line : ℕ) (reason : Reason) : Type 0 where
   pub taken : TookCount before after (most_bytes + 1)
   pub line_is : line ≡ 0
   pub reason_is : reason ≡ Long
 
 -- The source was read to its end, and its text is no job's.
-pub record HasNoJob (before after : Option (List ℕ)) (line : ℕ) (reason : Reason) : Type 0 where
+pub record TookNoJob (before after : Option (List ℕ)) (line : ℕ) (reason : Reason) : Type 0 where
   pub text : List ℕ
   pub all : TookAll before after text
   pub within : length text ≤ most_bytes
@@ -75,7 +75,7 @@ pub record TellsNoJob (told : Option (List ℕ)) (line : ℕ) (reason : Reason) 
   pub refused : IsRefusedText text line reason
 
 abbrev pub IsRefused : Option (List ℕ) → Option (List ℕ) → ℕ → Reason → Type 0
-IsRefused before after line reason = IsTooLong before after line reason ⊎ HasNoJob before after line reason
+IsRefused before after line reason = TookTooMany before after line reason ⊎ TookNoJob before after line reason
 
 -- Each answer's cause, and what it leaves in the source and in the sink.
 abbrev pub Answers : {S K : Type 0} → (S → Option (List ℕ)) → (S → ℕ) → (K → Option (List ℕ)) → (K → ℕ)

@@ -8,6 +8,7 @@ use std::test::Fail;
 use stm_io::{MemSink, MemSource};
 
 // What a call answered, and what the sink holds after it.
+#[derive(Drop)]
 struct Told {
     status: HostStatus,
     report: Vec<u8>,

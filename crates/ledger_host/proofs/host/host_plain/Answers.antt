@@ -1,4 +1,5 @@
 use Rattle.std.proofs.Common.{map, string_bytes}
+use Rattle.host_report.proofs.ReportLemmas.{text_fixes_listing}
 use Rattle.ledger_host.proofs.Cases.{done_only, refusal_only}
 use Rattle.ledger_host.proofs.host.host_plain.Goals as goal
 
@@ -8,7 +9,7 @@ returns-clause-refused g c =
     c.args.source.now c.answer.new.source c.args.sink.now c.answer.new.sink c.answer.result c.answer.ensures
 
 pub returns-clause-report_fixes_listing : goal.returns-clause-report_fixes_listing
-returns-clause-report_fixes_listing g c = ?
+returns-clause-report_fixes_listing g c = text_fixes_listing
 
 pub returns-clause-complete : goal.returns-clause-complete
 returns-clause-complete g c =
