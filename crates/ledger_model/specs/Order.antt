@@ -1,5 +1,5 @@
 -- The order of rows.
-use Rattle.std.specs.Prelude.{ℕ, Bool, true, false, ◌&&◌, ◌||◌, nat_eq, nat_lt, if◌then◌else◌}
+use Rattle.std.specs.Prelude.{ℕ, Bool, ◌&&◌, ◌||◌, nat_eq, nat_lt, if◌then◌else◌}
 use Rattle.ledger_model.specs.declared.listing.Row.{Row}
 
 -- the first number is less, or they are tied and what decides then holds

@@ -1,5 +1,5 @@
 -- The order in which `trace` runs the workers of a job without a schedule.
-use Rattle.std.specs.Prelude.{ℕ, ◌<◌, ◌≤◌, MatchBool, List}
+use Rattle.std.specs.Prelude.{◌<◌, ◌≤◌, MatchBool, List}
 use Rattle.std.specs.List.{AllByRecursion}
 use Rattle.ledger_model.specs.declared.listing.Row.{Row}
 

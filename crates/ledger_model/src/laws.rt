@@ -1,5 +1,6 @@
-//! The laws of running. Each function does nothing: its clauses are theorems over all statements.
-ghost use Rattle.std.specs.Prelude.{◌≡◌};
+//! The laws of running, and worked hashes. Each function does nothing: its clauses are theorems.
+ghost use Rattle.std.specs.Prelude.{◌≡◌, ◌/◌, ◌%◌, [], ◌∷◌, map};
+ghost use Rattle.ledger_model.specs.Maps.{hash};
 ghost use Rattle.ledger_model.specs.declared.script.Statement.{Statement};
 ghost use Rattle.ledger_model.specs.declared.script.Statement.TheOpen.{Statement-F};
 ghost use Rattle.ledger_model.specs.declared.script.Statement.TheViews.{roll-Statement};
@@ -11,4 +12,10 @@ ghost use Rattle.ledger_model.specs.Run.{Known, State, known, meaning, step};
 pub fn statements_do_their_steps()
     ensures steps { (layer : Statement-F Statement) (s : State) → meaning (roll-Statement layer) s ≡ step (map-Statement Statement Known known layer) s }
     ensures itself { (statement : Statement) → (known statement).itself ≡ statement }
+{}
+
+/// The low four bits of the hashes of 1 to 9 are all set, and what stands next to them differs.
+pub fn hashes_spread_upwards()
+    ensures low { map (λ key. hash key % 16) (1 ∷ 2 ∷ 3 ∷ 4 ∷ 5 ∷ 6 ∷ 7 ∷ 8 ∷ 9 ∷ []) ≡ 15 ∷ 15 ∷ 15 ∷ 15 ∷ 15 ∷ 15 ∷ 15 ∷ 15 ∷ 15 ∷ [] }
+    ensures next { map (λ key. hash key / 16 % 16) (1 ∷ 2 ∷ 3 ∷ 4 ∷ 5 ∷ 6 ∷ 7 ∷ 8 ∷ 9 ∷ []) ≡ 13 ∷ 11 ∷ 5 ∷ 7 ∷ 5 ∷ 11 ∷ 13 ∷ 15 ∷ 13 ∷ [] }
 {}

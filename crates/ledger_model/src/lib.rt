@@ -9,8 +9,11 @@ mod rows;
 mod script;
 
 pub use job::{Contents, Job, Openings, PairLists, Scripts, Steps, Workers};
-pub use laws::statements_do_their_steps;
+pub use laws::{hashes_spread_upwards, statements_do_their_steps};
 pub use listing::{Listing, Names, Rolled, RolledList, Row, RowResult};
 pub use reason::Reason;
 pub use rows::Rows;
 pub use script::{Block, Operand, Parts, Script, Statement};
+
+#[cfg(test)]
+mod tests;

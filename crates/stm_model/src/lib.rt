@@ -14,3 +14,6 @@ pub use pairs::Pairs;
 pub use series::{Memory, Series};
 pub use settings::{Policy, Settings};
 pub use values::{Runs, Values, Words};
+
+#[cfg(test)]
+mod tests;
