@@ -1,7 +1,8 @@
 //! Worked scripts and jobs.
-ghost use Rattle.std.specs.Prelude.{[], ◌∷◌, ◌≡◌, ◌<◌, ℕ, IfOk, length};
-ghost use Rattle.ledger_model.specs.Fits.{ScriptFits};
-ghost use Rattle.ledger_model.specs.Straight.{IsStraightScript};
+ghost use Rattle.std.specs.Prelude.{◌≡◌, ◌<◌, ℕ, IfOk};
+ghost use Rattle.ledger_model.specs.Fits.{JobFits, ScriptFits};
+ghost use Rattle.ledger_model.specs.Straight.{IsStraight, IsStraightScript};
+ghost use Rattle.plain_run.specs.Counts.{script_count};
 
 use crate::{run_in_turn, run_script};
 use ledger_model::{
@@ -105,18 +106,52 @@ fn reads(alloc: Global) -> Result<Script, Memory>
     Ok(Script { block })
 }
 
-fn job(alloc: Global, refs: u32, openings: Openings, workers: Workers) -> Job
-    ensures { result ≡ record { refs = refs; maps = 0; snaps = 0; blocks = 0; openings = openings; workers = workers; steps = [] } }
+/// A worker that adds 30 to reference 0, which begins with 100, and reads it again.
+fn one_worker(alloc: Global) -> Result<Job, Memory>
+    ensures fits { IfOk result (λ job. JobFits job) }
+    ensures straight { IfOk result (λ job. IsStraight job) }
+    ensures count { IfOk result (λ job. script_count job ≡ 2) }
 {
-    Job {
-        refs,
+    let mut openings = Openings::new(alloc);
+    openings.push((0, 100))?;
+    let mut scripts = Scripts::new(alloc);
+    scripts.push(adds(alloc, 30)?)?;
+    scripts.push(reads(alloc)?)?;
+    let mut workers = Workers::new(alloc);
+    workers.push(scripts)?;
+    Ok(Job {
+        refs: 2,
         maps: 0,
         snaps: 0,
         blocks: 0,
         openings,
         workers,
         steps: Steps::new(alloc),
-    }
+    })
+}
+
+/// Two workers, of which one adds 5 and one adds 7.
+fn two_workers(alloc: Global) -> Result<Job, Memory>
+    ensures fits { IfOk result (λ job. JobFits job) }
+    ensures straight { IfOk result (λ job. IsStraight job) }
+    ensures count { IfOk result (λ job. script_count job ≡ 2) }
+{
+    let mut first = Scripts::new(alloc);
+    first.push(adds(alloc, 5)?)?;
+    let mut second = Scripts::new(alloc);
+    second.push(adds(alloc, 7)?)?;
+    let mut workers = Workers::new(alloc);
+    workers.push(first)?;
+    workers.push(second)?;
+    Ok(Job {
+        refs: 1,
+        maps: 0,
+        snaps: 0,
+        blocks: 0,
+        openings: Openings::new(alloc),
+        workers,
+        steps: Steps::new(alloc),
+    })
 }
 
 /// What a row tells but for its prints.
@@ -126,12 +161,15 @@ fn place(row: &Row) -> (u64, bool, u16, u32) {
 
 #[test]
 fn an_empty_job_lists_nothing(rt: HostRuntime) -> Result<(), Fail> {
-    let job = job(
-        rt.alloc(),
-        0,
-        Openings::new(rt.alloc()),
-        Workers::new(rt.alloc()),
-    );
+    let job = Job {
+        refs: 0,
+        maps: 0,
+        snaps: 0,
+        blocks: 0,
+        openings: Openings::new(rt.alloc()),
+        workers: Workers::new(rt.alloc()),
+        steps: Steps::new(rt.alloc()),
+    };
     let listing = run_in_turn(rt.alloc(), &job, &SETTINGS)?;
     assert_eq!(rt; listing.rows.len(), 0);
     assert_eq!(rt; listing.contents.refs.len(), 0);
@@ -140,14 +178,7 @@ fn an_empty_job_lists_nothing(rt: HostRuntime) -> Result<(), Fail> {
 
 #[test]
 fn a_write_is_read_back_and_kept(rt: HostRuntime) -> Result<(), Fail> {
-    let mut openings = Openings::new(rt.alloc());
-    openings.push((0, 100))?;
-    let mut scripts = Scripts::new(rt.alloc());
-    scripts.push(adds(rt.alloc(), 30)?)?;
-    scripts.push(reads(rt.alloc())?)?;
-    let mut workers = Workers::new(rt.alloc());
-    workers.push(scripts)?;
-    let job = job(rt.alloc(), 2, openings, workers);
+    let job = one_worker(rt.alloc())?;
     let listing = run_in_turn(rt.alloc(), &job, &SETTINGS)?;
     let rows = listing.rows.as_slice();
     assert_eq!(rt; rows.len(), 2);
@@ -161,13 +192,7 @@ fn a_write_is_read_back_and_kept(rt: HostRuntime) -> Result<(), Fail> {
 
 #[test]
 fn workers_run_one_after_another(rt: HostRuntime) -> Result<(), Fail> {
-    let mut workers = Workers::new(rt.alloc());
-    for number in [5, 7] {
-        let mut scripts = Scripts::new(rt.alloc());
-        scripts.push(adds(rt.alloc(), number)?)?;
-        workers.push(scripts)?;
-    }
-    let job = job(rt.alloc(), 1, Openings::new(rt.alloc()), workers);
+    let job = two_workers(rt.alloc())?;
     let listing = run_in_turn(rt.alloc(), &job, &SETTINGS)?;
     let rows = listing.rows.as_slice();
     assert_eq!(rt; rows.len(), 2);
