@@ -3,6 +3,8 @@
 
 mod machine;
 mod opening;
+#[cfg(test)]
+mod tests;
 mod turns;
 
 pub use machine::{Ran, run_script};

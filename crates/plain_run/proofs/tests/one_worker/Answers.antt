@@ -1,0 +1,34 @@
+use Rattle.std.proofs.Common.{◌≡◌, [], ◌∷◌, refl, lit<, lit≤}
+use Rattle.plain_run.proofs.tests.one_worker.Goals as goal
+
+workers : (c : goal.After-new) → c.push-4.new.self ≡ (c.in_ok-adds.field-0 ∷ c.in_ok-reads.field-0 ∷ []) ∷ []
+workers c = rw (c.in_ok-push-4.ensures.ok, c.in_ok-push-3.ensures.ok, c.in_ok-push-2.ensures.ok, c.new-workers.ensures, c.new-scripts.ensures) refl
+
+pub returns-clause-fits : goal.returns-clause-fits
+returns-clause-fits c =
+    rw (workers c, c.in_ok-push.ensures.ok, c.new-openings.ensures, c.new.ensures)
+    (record {
+      refs = lit≤ tt;
+      maps = lit≤ tt;
+      snaps = lit≤ tt;
+      blocks = lit≤ tt;
+      openings = (lit≤ tt, lit< tt, lit< tt, lit< tt, tt);
+      workers = lit≤ tt;
+      scripts = ((lit≤ tt, (c.in_ok-adds.ensures.fits 2 (lit< tt), (c.in_ok-reads.ensures.fits 2 (lit< tt), tt))), tt);
+      steps = lit≤ tt;
+      named = tt;
+    })
+
+pub returns-clause-straight : goal.returns-clause-straight
+returns-clause-straight c =
+    rw (workers c)
+    (record {
+      maps = refl;
+      snaps = refl;
+      blocks = refl;
+      steps = c.new.ensures;
+      scripts = ((c.in_ok-adds.ensures.straight, (c.in_ok-reads.ensures.straight, tt)), tt);
+    })
+
+pub returns-clause-count : goal.returns-clause-count
+returns-clause-count c = rw (workers c) refl
