@@ -1,0 +1,4 @@
+pub mod Lists
+pub mod LineLemmas
+pub mod CutLemmas
+pub mod NumberLemmas
