@@ -1,3 +1,5 @@
 pub mod FieldLemmas
 pub mod Options
+pub mod LineLemmas
+pub mod StatementLemmas
 pub mod WordLemmas

@@ -8,7 +8,7 @@ use Rattle.std.specs.Str.{bytes_eq}
 use Rattle.std.specs.Str.Parse.{digits_value}
 use Rattle.text_lines.specs.Lines.{is_word, is_visible, is_nonempty}
 use Rattle.text_lines.specs.Numbers.{is_number, number_of, plain_word}
-use Rattle.text_lines.proofs.Lists.{both}
+use Rattle.text_lines.proofs.Lists.{both, and_true}
 use Rattle.text_lines.proofs.NumberLemmas.{all_digits, own_digits, decimal_digits, decimal_word, number_of-decimal, number_below, number_word, plain_number, plain_other, number_of-plain}
 use Rattle.ledger_model.specs.Fits.{is_register, operand_fits}
 use Rattle.ledger_model.specs.declared.script.Operand.{Operand}
@@ -19,15 +19,18 @@ use Rattle.script_text.specs.Words.{◌>>=◌, keyword_word, keywords, named, ke
 use Rattle.script_text.specs.Printing.{register_word, operand_word}
 use Rattle.script_text.proofs.Options.{bind_some, some_if, some_same}
 
--- A way to read a word. What is read of a word has the word's plain form as its canonical word, and is read of that too.
-pub record IsReading {A : Type 0} (read : List ℕ → Option A) (word_of : A → List ℕ) (Fits : A → Type 0) : Type 0 where
+-- A way to read a word, with the canonical words of values and the values' limits. A word that is read has its value's canonical word as plain form, and says the same in it.
+pub record Way (A : Type 0) : Type 0 where
+  pub read : List ℕ → Option A
+  pub word_of : A → List ℕ
+  pub fits : A → Bool
   pub plain : (w : List ℕ) (x : A) → read w ≡ Some x → plain_word w ≡ word_of x
-  pub fits : (w : List ℕ) (x : A) → read w ≡ Some x → Fits x
+  pub within : (w : List ℕ) (x : A) → read w ≡ Some x → fits x ≡ true
   pub visible : (w : List ℕ) (x : A) → read w ≡ Some x → IsTrue (is_word w)
-  pub again : (x : A) → Fits x → read (word_of x) ≡ Some x
+  pub again : (x : A) → fits x ≡ true → read (word_of x) ≡ Some x
   pub same : (w : List ℕ) → read (plain_word w) ≡ read w
 
-lt_true : (a b : ℕ) → a < b → nat_lt a b ≡ true
+pub lt_true : (a b : ℕ) → a < b → nat_lt a b ≡ true
 lt_true a b h = grind (arith, nat_tests)
 
 pub true_lt : (a b : ℕ) → nat_lt a b ≡ true → a < b
@@ -35,31 +38,45 @@ true_lt a b h = grind (arith, nat_tests)
 
 -- ---- numbers
 
-pub number_reading : IsReading number_of decimal (λ n. n < 2 ^ 64)
-number_reading = record {
+abbrev pub number_way : Way ℕ
+number_way = record {
+  read = number_of;
+  word_of = decimal;
+  fits = λ n. nat_lt n (2 ^ 64);
   plain = plain_number;
-  fits = number_below;
+  within = λ w n h. lt_true n (2 ^ 64) (number_below w n h);
   visible = number_word;
-  again = number_of-decimal;
+  again = λ n h. number_of-decimal n (true_lt n (2 ^ 64) h);
   same = number_of-plain;
 }
 
-below_some : (limit : ℕ) (w : List ℕ) (n : ℕ) → below limit w ≡ Some n → (number_of w ≡ Some n) × (n < limit)
+pub below_some : (limit : ℕ) (w : List ℕ) (n : ℕ) → below limit w ≡ Some n → (number_of w ≡ Some n) × (n < limit)
 below_some limit w n h =
     let b = bind_some (number_of w) (λ n. if nat_lt n limit then Some n else None) n h in
     let e = some_if (nat_lt b.0 limit) b.0 n b.2 in
     (b.1 ∙ ap Some e.1, subst (λ (m : ℕ). m < limit) e.1 (true_lt b.0 limit e.0))
 
-pub below_reading : (limit : ℕ) → IsReading (below limit) decimal (λ n. (n < limit) × (n < 2 ^ 64))
-below_reading limit = record {
+pub below_again : (limit n : ℕ) → (nat_lt n limit && nat_lt n (2 ^ 64)) ≡ true → below limit (decimal n) ≡ Some n
+below_again limit n h =
+    let e = both (nat_lt n limit) (nat_lt n (2 ^ 64)) h in
+    rw (number_of-decimal n (true_lt n (2 ^ 64) e.1), e.0) refl
+
+pub below_within : (limit : ℕ) (w : List ℕ) (n : ℕ) → below limit w ≡ Some n → (nat_lt n limit && nat_lt n (2 ^ 64)) ≡ true
+below_within limit w n h =
+    let e = below_some limit w n h in
+    and_true (nat_lt n limit) (nat_lt n (2 ^ 64)) (lt_true n limit e.1) (lt_true n (2 ^ 64) (number_below w n e.0))
+
+abbrev pub below_way : ℕ → Way ℕ
+below_way limit = record {
+  read = below limit;
+  word_of = decimal;
+  fits = λ n. nat_lt n limit && nat_lt n (2 ^ 64);
   plain = λ w n h. plain_number w n (below_some limit w n h).0;
-  fits = λ w n h. let e = below_some limit w n h in (e.1, number_below w n e.0);
+  within = below_within limit;
   visible = λ w n h. number_word w n (below_some limit w n h).0;
-  again = λ n h. again n h.0 h.1;
+  again = below_again limit;
   same = λ w. ap (λ (o : Option ℕ). o >>= λ n. if nat_lt n limit then Some n else None) (number_of-plain w);
-} where
-  again : (n : ℕ) → n < limit → n < 2 ^ 64 → below limit (decimal n) ≡ Some n
-  again n h l = rw (number_of-decimal n l, lt_true n limit h) refl
+}
 
 -- ---- words that begin with no digit
 
@@ -120,14 +137,14 @@ is_r b h = grind (arith, nat_tests)
 r_no_digit : (b : ℕ) → nat_eq b 114 ≡ true → is_ascii_digit b ≡ false
 r_no_digit b h = let e = is_r b h in ap (λ (b : ℕ). is_ascii_digit b) e
 
-register_some : (w : List ℕ) (r : ℕ) → register_of w ≡ Some r → (w ≡ register_word r) × (is_register r ≡ true)
+pub register_some : (w : List ℕ) (r : ℕ) → register_of w ≡ Some r → (w ≡ register_word r) × (is_register r ≡ true)
 register_some [] r h = cc
 register_some (b ∷ ds) r h = at (nat_eq b 114) refl h where
   at : (v : Bool) → nat_eq b 114 ≡ v → cond v (register_number ds) None ≡ Some r → ((b ∷ ds) ≡ register_word r) × (is_register r ≡ true)
   at true e h = let d = register_digits ds r h in (ap (λ (c : ℕ). c ∷ ds) (is_r b e) ∙ ap (λ (t : List ℕ). 114 ∷ t) d.0, d.1)
   at false e h = cc
 
-number_no_register : (w : List ℕ) (n : ℕ) → number_of w ≡ Some n → register_of w ≡ None
+pub number_no_register : (w : List ℕ) (n : ℕ) → number_of w ≡ Some n → register_of w ≡ None
 number_no_register [] n h = refl
 number_no_register (b ∷ ds) n h = at (nat_eq b 114) refl where
   at : (v : Bool) → nat_eq b 114 ≡ v → cond v (register_number ds) None ≡ None
@@ -138,7 +155,7 @@ no_leading_zero : (n : ℕ) → n < 2 ^ 64 → leads_with_zero (decimal n) ≡ f
 no_leading_zero zero h = rw (decimal_digit 0 (omega arith)) refl
 no_leading_zero (suc n) h = let f = first_decimal (suc n) (omega arith) h in grind (arith, nat_tests)
 
-register_again : (r : ℕ) → is_register r ≡ true → register_of (register_word r) ≡ Some r
+pub register_again : (r : ℕ) → is_register r ≡ true → register_of (register_word r) ≡ Some r
 register_again r h =
     let l = true_lt r 16 h in
     let m : r < 2 ^ 64 = omega arith in
@@ -147,14 +164,20 @@ register_again r h =
 register_is_word : (r : ℕ) → is_register r ≡ true → IsTrue (is_word (register_word r))
 register_is_word r h = let l = true_lt r 16 h in (both (is_nonempty (decimal r)) (list_all is_visible (decimal r)) (decimal_word r (omega arith))).1
 
-register_plain : (r : ℕ) → plain_word (register_word r) ≡ register_word r
+pub register_plain : (r : ℕ) → plain_word (register_word r) ≡ register_word r
 register_plain r = plain_other (register_word r) (number_of_other 114 (decimal r) refl)
 
-pub register_reading : IsReading register_of register_word (λ r. is_register r ≡ true)
-register_reading = record {
-  plain = λ w r h. let e = register_some w r h in ap plain_word e.0 ∙ register_plain r;
-  fits = λ w r h. (register_some w r h).1;
-  visible = λ w r h. let e = register_some w r h in subst (λ (v : List ℕ). IsTrue (is_word v)) (sym e.0) (register_is_word r e.1);
+pub register_visible : (w : List ℕ) (r : ℕ) → register_of w ≡ Some r → IsTrue (is_word w)
+register_visible w r h = let e = register_some w r h in subst (λ (v : List ℕ). IsTrue (is_word v)) (sym e.0) (register_is_word r e.1)
+
+abbrev pub register_way : Way ℕ
+register_way = record {
+  read = register_of;
+  word_of = register_word;
+  fits = is_register;
+  plain = λ w r h. ap plain_word (register_some w r h).0 ∙ register_plain r;
+  within = λ w r h. (register_some w r h).1;
+  visible = register_visible;
   again = register_again;
   same = same_beside register_of number_no_register;
 }
@@ -165,34 +188,37 @@ number_some : (w : List ℕ) (x : Operand) → (number_of w >>= λ n. Some (Numb
 number_some w x h = let b = bind_some (number_of w) (λ n. Some (Number n)) x h in (b.0, b.1, some_same (Number b.0) x b.2)
 
 -- an operand is a register, or else a number
-operand_some : (w : List ℕ) (x : Operand) → operand_of w ≡ Some x → (plain_word w ≡ operand_word x) × (operand_fits x ≡ true) × IsTrue (is_word w)
+pub operand_some : (w : List ℕ) (x : Operand) → operand_of w ≡ Some x → (plain_word w ≡ operand_word x) × (operand_fits x ≡ true) × IsTrue (is_word w)
 operand_some w x h = at (register_of w) refl h where
   at : (o : Option ℕ) → register_of w ≡ o → register_or o w ≡ Some x → (plain_word w ≡ operand_word x) × (operand_fits x ≡ true) × IsTrue (is_word w)
   at (Some r) e h =
     let q = some_same (Reg r) x h in
-    (register_reading.plain w r e ∙ ap operand_word q, sym (ap operand_fits q) ∙ register_reading.fits w r e, register_reading.visible w r e)
+    (register_way.plain w r e ∙ ap operand_word q, sym (ap operand_fits q) ∙ register_way.within w r e, register_visible w r e)
   at None e h =
     let b = number_some w x h in
     (plain_number w b.0 b.1 ∙ ap operand_word b.2, sym (ap operand_fits b.2) ∙ lt_true b.0 (2 ^ 64) (number_below w b.0 b.1), number_word w b.0 b.1)
 
-operand_again : (x : Operand) → operand_fits x ≡ true → operand_of (operand_word x) ≡ Some x
+pub operand_again : (x : Operand) → operand_fits x ≡ true → operand_of (operand_word x) ≡ Some x
 operand_again (Reg r) h = ap (λ (o : Option ℕ). register_or o (register_word r)) (register_again r h)
 operand_again (Number n) h =
     let l = true_lt n (2 ^ 64) h in
     let e = number_of-decimal n l in
     ap (λ (o : Option ℕ). register_or o (decimal n)) (number_no_register (decimal n) n e) ∙ ap (λ (o : Option ℕ). o >>= λ n. Some (Number n)) e
 
-operand_same : (w : List ℕ) → operand_of (plain_word w) ≡ operand_of w
+pub operand_same : (w : List ℕ) → operand_of (plain_word w) ≡ operand_of w
 operand_same w =
-    ap (λ (o : Option ℕ). register_or o (plain_word w)) (register_reading.same w) ∙ at (register_of w) where
+    ap (λ (o : Option ℕ). register_or o (plain_word w)) (register_way.same w) ∙ at (register_of w) where
   at : (o : Option ℕ) → register_or o (plain_word w) ≡ register_or o w
   at (Some r) = refl
   at None = ap (λ (o : Option ℕ). o >>= λ n. Some (Number n)) (number_of-plain w)
 
-pub operand_reading : IsReading operand_of operand_word (λ x. operand_fits x ≡ true)
-operand_reading = record {
+abbrev pub operand_way : Way Operand
+operand_way = record {
+  read = operand_of;
+  word_of = operand_word;
+  fits = operand_fits;
   plain = λ w x h. (operand_some w x h).0;
-  fits = λ w x h. (operand_some w x h).1;
+  within = λ w x h. (operand_some w x h).1;
   visible = λ w x h. (operand_some w x h).2;
   again = operand_again;
   same = operand_same;
