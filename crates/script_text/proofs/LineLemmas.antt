@@ -19,7 +19,7 @@ use Rattle.script_text.specs.Reading.{one, two, statement_of, said, line_of}
 use Rattle.script_text.specs.Printing.{register_word, operand_word, refs_line, opening_line, end_line, statement_lines, statement_step}
 use Rattle.script_text.proofs.Options.{bind_some, some_same}
 use Rattle.script_text.proofs.StatementLemmas as stmt
-use Rattle.script_text.proofs.WordLemmas.{Way, number_way, below_way, register_way, operand_way, keyword_is, keyword_plain, keyword_visible, keyword_same, true_lt}
+use Rattle.script_text.proofs.WordLemmas.{Way, number_way, below_way, register_way, operand_way, keyword_is, keyword_plain, keyword_visible, keyword_same, true_lt, lt_true}
 
 -- ---- fields, each read in its own way
 
@@ -184,3 +184,142 @@ statement_says refs key.Print args m h =
     let t = one_says operand_way (λ x. made.Print x) args m h in
     spoken refs (stmt.print t.x) key.Print args m t.is (ap (λ (more : Row). codes "print" ∷ more) t.plain) t.fits t.words
 statement_says refs _ args m h = cc
+
+-- ---- lines
+
+-- a line of one word
+alone : (refs : ℕ) (k : Keyword) (l : Line) → (keyword_word k ∷ []) ∷ [] ≡ line_rows l → LineFits refs l → (args : Row) (line : Line) → (no_field args >>= λ _. Some l) ≡ Some line → Says refs (keyword_word k ∷ args) line
+alone refs k l e f (a ∷ more) line h = cc
+alone refs k l e f [] line h =
+    subst (Says refs (keyword_word k ∷ [])) (some_same l line h) (record {
+      plain = ap (λ (z : List ℕ). (z ∷ []) ∷ []) (keyword_plain k) ∙ e;
+      fits = f;
+      words = (keyword_visible k, tt);
+    })
+
+stated : (refs : ℕ) (k : Keyword) (args : Row) (line : Line) → (statement_of refs k args >>= λ m. Some (says.Plain m)) ≡ Some line → Says refs (keyword_word k ∷ args) line
+stated refs k args line h =
+    let b = bind_some (statement_of refs k args) (λ m. Some (says.Plain m)) line h in
+    subst (Says refs (keyword_word k ∷ args)) (some_same (says.Plain b.0) line b.2) (statement_says refs k args b.0 b.1)
+
+refs_within : (n : ℕ) → (nat_lt n 65537 && nat_lt n (2 ^ 64)) ≡ true → n ≤ 65536
+refs_within n h = let l = true_lt n 65537 (both (nat_lt n 65537) (nat_lt n (2 ^ 64)) h).0 in omega arith
+
+opening_within : (refs cell n : ℕ) → ((nat_lt cell refs && nat_lt cell (2 ^ 64)) && nat_lt n (2 ^ 64)) ≡ true → (cell < refs) × (n < 2 ^ 64)
+opening_within refs cell n h =
+    let e = both (nat_lt cell refs && nat_lt cell (2 ^ 64)) (nat_lt n (2 ^ 64)) h in
+    (true_lt cell refs (both (nat_lt cell refs) (nat_lt cell (2 ^ 64)) e.0).0, true_lt n (2 ^ 64) e.1)
+
+said_says : (refs : ℕ) (k : Keyword) (args : Row) (line : Line) → said refs k args ≡ Some line → Says refs (keyword_word k ∷ args) line
+said_says refs key.Refs args line h =
+    let t = one_says (below_way 65537) (λ n. says.Refs n) args line h in
+    subst (Says refs (codes "refs" ∷ args)) t.is (record {
+      plain = ap (λ (more : Row). (codes "refs" ∷ more) ∷ []) t.plain;
+      fits = refs_within t.x t.fits;
+      words = (refl, t.words);
+    })
+said_says refs key.Ref args line h =
+    let t = two_says (below_way refs) number_way (λ cell n. says.Opening cell n) args line h in
+    subst (Says refs (codes "ref" ∷ args)) t.is (record {
+      plain = ap (λ (more : Row). (codes "ref" ∷ more) ∷ []) t.plain;
+      fits = opening_within refs t.x t.y t.fits;
+      words = (refl, t.words);
+    })
+said_says refs key.Worker args line h = alone refs key.Worker says.Worker refl tt args line h
+said_says refs key.Script args line h = alone refs key.Script says.Script refl tt args line h
+said_says refs key.End args line h = alone refs key.End says.End refl tt args line h
+said_says refs key.Const args line h = stated refs key.Const args line h
+said_says refs key.Read args line h = stated refs key.Read args line h
+said_says refs key.Write args line h = stated refs key.Write args line h
+said_says refs key.Add args line h = stated refs key.Add args line h
+said_says refs key.Sub args line h = stated refs key.Sub args line h
+said_says refs key.Print args line h = stated refs key.Print args line h
+
+-- the plain form of a row that says a line is this line's canonical row
+pub line_says : (refs : ℕ) (row : Row) (line : Line) → line_of refs row ≡ Some line → Says refs row line
+line_says refs [] line h = cc
+line_says refs (word ∷ args) line h =
+    let b = bind_some (keyword_of word) (λ k. said refs k args) line h in
+    subst (λ (w : List ℕ). Says refs (w ∷ args) line) (sym (keyword_is word b.0 b.1)) (said_says refs b.0 args line b.2)
+
+-- ---- the plain form of a row says the same
+
+no_same : (args : Row) → no_field (map plain_word args) ≡ no_field args
+no_same [] = refl
+no_same (a ∷ more) = refl
+
+statement_same : (refs : ℕ) (k : Keyword) (args : Row) → statement_of refs k (map plain_word args) ≡ statement_of refs k args
+statement_same refs key.Const args = two_same register_way number_way (λ r n. made.Const r n) args
+statement_same refs key.Read args = two_same register_way (below_way refs) (λ r cell. made.Read r cell) args
+statement_same refs key.Write args = two_same (below_way refs) operand_way (λ cell x. made.Write cell x) args
+statement_same refs key.Add args = two_same register_way operand_way (λ r x. made.Add r x) args
+statement_same refs key.Sub args = two_same register_way operand_way (λ r x. made.Sub r x) args
+statement_same refs key.Print args = one_same operand_way (λ x. made.Print x) args
+statement_same refs _ args = refl
+
+said_same : (refs : ℕ) (k : Keyword) (args : Row) → said refs k (map plain_word args) ≡ said refs k args
+said_same refs key.Refs args = one_same (below_way 65537) (λ n. says.Refs n) args
+said_same refs key.Ref args = two_same (below_way refs) number_way (λ cell n. says.Opening cell n) args
+said_same refs key.Worker args = ap (λ (o : Option (Unit {0})). o >>= λ _. Some says.Worker) (no_same args)
+said_same refs key.Script args = ap (λ (o : Option (Unit {0})). o >>= λ _. Some says.Script) (no_same args)
+said_same refs key.End args = ap (λ (o : Option (Unit {0})). o >>= λ _. Some says.End) (no_same args)
+said_same refs key.Const args = ap (λ (o : Option Statement). o >>= λ m. Some (says.Plain m)) (statement_same refs key.Const args)
+said_same refs key.Read args = ap (λ (o : Option Statement). o >>= λ m. Some (says.Plain m)) (statement_same refs key.Read args)
+said_same refs key.Write args = ap (λ (o : Option Statement). o >>= λ m. Some (says.Plain m)) (statement_same refs key.Write args)
+said_same refs key.Add args = ap (λ (o : Option Statement). o >>= λ m. Some (says.Plain m)) (statement_same refs key.Add args)
+said_same refs key.Sub args = ap (λ (o : Option Statement). o >>= λ m. Some (says.Plain m)) (statement_same refs key.Sub args)
+said_same refs key.Print args = ap (λ (o : Option Statement). o >>= λ m. Some (says.Plain m)) (statement_same refs key.Print args)
+
+pub line_same : (refs : ℕ) (row : Row) → line_of refs (map plain_word row) ≡ line_of refs row
+line_same refs [] = refl
+line_same refs (word ∷ args) =
+    ap (λ (o : Option Keyword). o >>= λ k. said refs k (map plain_word args)) (keyword_same word) ∙ at (keyword_of word) where
+  at : (o : Option Keyword) → (o >>= λ k. said refs k (map plain_word args)) ≡ (o >>= λ k. said refs k args)
+  at None = refl
+  at (Some k) = said_same refs k args
+
+-- ---- the canonical row of a line says this line
+
+small : (refs n : ℕ) → refs ≤ 65536 → nat_lt n refs ≡ true → nat_lt n (2 ^ 64) ≡ true
+small refs n l h = let m = true_lt n refs h in lt_true n (2 ^ 64) (omega arith)
+
+plain_again : (refs : ℕ) → refs ≤ 65536 → (s : stmt.Plain) → plain_fits refs s ≡ true → line_of refs (row_of s) ≡ Some (says.Plain (stmt.made_of s))
+plain_again refs l (stmt.const r n) f = ap (λ (o : Option Statement). o >>= λ m. Some (says.Plain m)) (two_again register_way number_way (λ r n. made.Const r n) r n f)
+plain_again refs l (stmt.read r cell) f =
+    let e = both (is_register r) (nat_lt cell refs) f in
+    ap (λ (o : Option Statement). o >>= λ m. Some (says.Plain m)) (two_again register_way (below_way refs) (λ r cell. made.Read r cell) r cell (and_true (is_register r) (nat_lt cell refs && nat_lt cell (2 ^ 64)) e.0 (and_true (nat_lt cell refs) (nat_lt cell (2 ^ 64)) e.1 (small refs cell l e.1))))
+plain_again refs l (stmt.write cell x) f =
+    let e = both (nat_lt cell refs) (operand_fits x) f in
+    ap (λ (o : Option Statement). o >>= λ m. Some (says.Plain m)) (two_again (below_way refs) operand_way (λ cell x. made.Write cell x) cell x (and_true (nat_lt cell refs && nat_lt cell (2 ^ 64)) (operand_fits x) (and_true (nat_lt cell refs) (nat_lt cell (2 ^ 64)) e.0 (small refs cell l e.0)) e.1))
+plain_again refs l (stmt.add r x) f = ap (λ (o : Option Statement). o >>= λ m. Some (says.Plain m)) (two_again register_way operand_way (λ r x. made.Add r x) r x f)
+plain_again refs l (stmt.sub r x) f = ap (λ (o : Option Statement). o >>= λ m. Some (says.Plain m)) (two_again register_way operand_way (λ r x. made.Sub r x) r x f)
+plain_again refs l (stmt.print x) f = ap (λ (o : Option Statement). o >>= λ m. Some (says.Plain m)) (one_again operand_way (λ x. made.Print x) x f)
+
+-- The one row of a line within the limits. It says this line.
+pub record Spelled (refs : ℕ) (line : Line) : Type 0 where
+  pub row : Row
+  pub rows : line_rows line ≡ row ∷ []
+  pub says : line_of refs row ≡ Some line
+
+pub line_again : (refs : ℕ) → refs ≤ 65536 → (line : Line) → LineFits refs line → Spelled refs line
+line_again refs l (says.Refs n) f = record {
+  row = refs_line n;
+  rows = refl;
+  says = one_again (below_way 65537) (λ n. says.Refs n) n (and_true (nat_lt n 65537) (nat_lt n (2 ^ 64)) (lt_true n 65537 (omega arith)) (lt_true n (2 ^ 64) (omega arith)));
+}
+line_again refs l (says.Opening cell n) f =
+    let e = lt_true cell refs f.0 in record {
+  row = opening_line (cell, n);
+  rows = refl;
+  says = two_again (below_way refs) number_way (λ cell n. says.Opening cell n) cell n (and_true (nat_lt cell refs && nat_lt cell (2 ^ 64)) (nat_lt n (2 ^ 64)) (and_true (nat_lt cell refs) (nat_lt cell (2 ^ 64)) e (small refs cell l e)) (lt_true n (2 ^ 64) f.1));
+}
+line_again refs l says.Worker f = record { row = codes "worker" ∷ []; rows = refl; says = refl }
+line_again refs l says.Script f = record { row = codes "script" ∷ []; rows = refl; says = refl }
+line_again refs l says.End f = record { row = codes "end" ∷ []; rows = refl; says = refl }
+line_again refs l (says.Plain m) f =
+    let p = stmt.plain m f.0 in
+    subst (λ (m : Statement). Spelled refs (says.Plain m)) (sym p.1) (record {
+      row = row_of p.0;
+      rows = statement_row p.0;
+      says = plain_again refs l p.0 (sym (statement_fits refs p.0) ∙ ap (λ (m : Statement). fits (only refs) m 32) (sym p.1) ∙ f.1);
+    })
