@@ -84,14 +84,15 @@ step reader row = line_of (refs_of reader) row >>= λ line. taken reader line
 
 -- ---- whole texts
 
-abbrev pub job_with : Opened → List (List Script) → Job
-job_with o workers = record { refs = o.refs; maps = 0; snaps = 0; blocks = 0; openings = o.openings; workers = workers; steps = [] }
+-- a job of references alone, without a schedule
+abbrev pub job_with : ℕ → List (ℕ × ℕ) → List (List Script) → Job
+job_with refs openings workers = record { refs = refs; maps = 0; snaps = 0; blocks = 0; openings = openings; workers = workers; steps = [] }
 
 -- the job, where no script is open
 abbrev pub finished : Reader → Option Job
-finished now.Head = Some (job_with (opened 0) [])
-finished (now.Openings o) = Some (job_with o [])
-finished (now.Worker o workers scripts) = Some (job_with o (workers ++ scripts ∷ []))
+finished now.Head = Some (job_with 0 [] [])
+finished (now.Openings o) = Some (job_with o.refs o.openings [])
+finished (now.Worker o workers scripts) = Some (job_with o.refs o.openings (workers ++ scripts ∷ []))
 finished (now.Script o workers scripts block) = None
 
 abbrev pub read_on : Reader → List Row → Option Job

@@ -235,7 +235,7 @@ impl Reader {
 }
 
 fn job_with(alloc: Global, opened: Opened, workers: Workers) -> Job
-    ensures { result ≡ job_with opened workers }
+    ensures { result ≡ job_with opened.refs opened.openings workers }
 {
     Job {
         refs: opened.refs,
