@@ -2,8 +2,9 @@
 use Rattle.std.proofs.Common.{◌≡◌, ℕ, ◌+◌, ◌<◌, ◌≤◌, ◌^◌, Bool, true, false, ◌&&◌, not, cond, nat_eq, nat_lt, nat_le, if◌then◌else◌, List, [], ◌∷◌, ◌++◌, length, map, filter, Option, Some, None, refl, sym, ap, subst, ◌∙◌, append_assoc, append-nil, length-append, arith, codes}
 use Rattle.std.proofs.lemmas.Bool.Decides.{nat_tests}
 use Rattle.std.specs.List.{AllByRecursion, flat_map}
-use Rattle.text_lines.specs.Lines.{Row, AreWords}
+use Rattle.text_lines.specs.Lines.{Row, AreFields}
 use Rattle.text_lines.specs.Numbers.{plain_word}
+use Rattle.text_lines.proofs.LineLemmas.{words_are_fields}
 use Rattle.ledger_model.specs.declared.job.Job.{Job}
 use Rattle.ledger_model.specs.declared.script.Script.{Script}
 use Rattle.ledger_model.specs.declared.script.Statement.{Statement}
@@ -20,7 +21,7 @@ use Rattle.script_text.proofs.Options.{bind_some}
 use Rattle.script_text.proofs.WordLemmas.{lt_true}
 use Rattle.script_text.proofs.LineLemmas.{Good, LineFits, line_rows, Spelled, line_again, line_same, line_says}
 
--- ---- the plain form of rows is read alike, and rows that are read consist of words
+-- ---- the plain form of rows is read alike, and rows that are read consist of fields
 
 pub read_same : (rows : List Row) (reader : Reader) → read_on reader (map (map plain_word) rows) ≡ read_on reader rows
 read_same [] reader = refl
@@ -31,12 +32,13 @@ read_same (row ∷ rows) reader =
   at None f = refl
   at (Some next) f = f next
 
-pub read_words : (rows : List Row) (reader : Reader) (job : Job) → read_on reader rows ≡ Some job → AllByRecursion AreWords rows
-read_words [] reader job h = tt
-read_words (row ∷ rows) reader job h =
-    let b = bind_some (step reader row) (λ next. read_on next rows) job h in
-    let c = bind_some (line_of (refs_of reader) row) (λ line. taken reader line) b.0 b.1 in
-    ((line_says (refs_of reader) row c.0 c.1).words, read_words rows b.0 job b.2)
+pub read_fields : (rows : List Row) (reader : Reader) (job : Job) → read_on reader rows ≡ Some job → AllByRecursion AreFields rows
+read_fields [] reader job h = tt
+read_fields ([] ∷ rows) reader job h = cc
+read_fields ((word ∷ args) ∷ rows) reader job h =
+    let b = bind_some (step reader (word ∷ args)) (λ next. read_on next rows) job h in
+    let c = bind_some (line_of (refs_of reader) (word ∷ args)) (λ line. taken reader line) b.0 b.1 in
+    ((omega arith, words_are_fields (word ∷ args) (line_says (refs_of reader) (word ∷ args) c.0 c.1).words), read_fields rows b.0 job b.2)
 
 -- ---- scripts and workers
 
@@ -120,7 +122,7 @@ abbrev behind : Opened → List (ℕ × ℕ) → Opened
 behind o [] = o
 behind o (opening ∷ openings) = behind (with_opening o opening.0 opening.1) openings
 
-set_first : (opening : ℕ × ℕ) (openings before : List (ℕ × ℕ)) → (if nat_eq opening.1 0 then before else before ++ opening ∷ []) ++ filter is_set openings ≡ before ++ filter is_set (opening ∷ openings)
+pub set_first : (opening : ℕ × ℕ) (openings before : List (ℕ × ℕ)) → (if nat_eq opening.1 0 then before else before ++ opening ∷ []) ++ filter is_set openings ≡ before ++ filter is_set (opening ∷ openings)
 set_first opening openings before = at (nat_eq opening.1 0) where
   at : (b : Bool) → cond b before (before ++ opening ∷ []) ++ filter is_set openings ≡ before ++ cond (not b) (opening ∷ filter is_set openings) (filter is_set openings)
   at true = refl

@@ -226,7 +226,7 @@ operand_way = record {
 
 -- ---- keywords
 
-bytes_same : (a b : List ℕ) → bytes_eq a b ≡ true → a ≡ b
+pub bytes_same : (a b : List ℕ) → bytes_eq a b ≡ true → a ≡ b
 bytes_same [] [] h = refl
 bytes_same [] (y ∷ ys) h = cc
 bytes_same (x ∷ xs) [] h = cc

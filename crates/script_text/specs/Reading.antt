@@ -14,8 +14,8 @@ use Rattle.script_text.specs.declared.line.Line.TheVariants as says
 use Rattle.script_text.specs.declared.reader.Opened.{Opened}
 use Rattle.script_text.specs.declared.reader.Reader.{Reader}
 use Rattle.script_text.specs.declared.reader.Reader.TheVariants as now
-use Rattle.script_text.specs.declared.parse.ParseFault.{ParseFault}
-use Rattle.script_text.specs.declared.parse.ParseFault.TheVariants as fault
+use Rattle.script_text.specs.declared.job_text.ParseFault.{ParseFault}
+use Rattle.script_text.specs.declared.job_text.ParseFault.TheVariants as fault
 use Rattle.script_text.specs.Words.{◌>>=◌, keyword_of, below, register_of, operand_of, no_field, one_field, two_fields}
 
 -- ---- what a line says

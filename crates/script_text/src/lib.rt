@@ -1,9 +1,11 @@
 //! The text of a job: reading it, and what its form means.
 #![tactic(auto)]
 
+mod job_text;
+pub mod laws;
 mod line;
-mod parse;
+
 mod reader;
 mod words;
 
-pub use parse::ParseFault;
+pub use job_text::{ParseFault, parse};

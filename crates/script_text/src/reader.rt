@@ -6,7 +6,7 @@ ghost use Rattle.script_text.specs.declared.line.Line.TheVariants as says;
 ghost use Rattle.script_text.specs.Reading.{opened, with_opening, refs_of, taken, step, job_with, finished, Reads};
 
 use crate::line::{Line, line_of};
-use crate::parse::{ParseFault, UNBUILT};
+use crate::job_text::{ParseFault, UNBUILT};
 use ledger_model::{Block, Job, Openings, Script, Scripts, Statement, Steps, Workers};
 use std::alloc::Global;
 use stm_model::Memory;

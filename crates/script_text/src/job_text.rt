@@ -1,8 +1,8 @@
 //! From a job text to a job.
 
-ghost use Rattle.std.specs.Prelude.{◌≡◌, ℕ, length};
-ghost use Rattle.script_text.specs.Reading.{job_of, read_lines, Reads};
-ghost use Rattle.text_lines.specs.Lines.{lines};
+ghost use Rattle.std.specs.Prelude.{◌≡◌, ◌⊎◌, IfOk, IfErr};
+ghost use Rattle.script_text.specs.Form.{IsTextOf, HasNoJob};
+ghost use Rattle.script_text.specs.Reading.{job_of, Reads};
 
 use crate::reader::Reader;
 use ledger_model::{Job, Reason};
@@ -20,7 +20,7 @@ pub enum ParseFault {
 }
 
 impl From<Memory> for ParseFault {
-    ghost use Rattle.script_text.specs.declared.parse.ParseFault.TheVariants as fault;
+    ghost use Rattle.script_text.specs.declared.job_text.ParseFault.TheVariants as fault;
 
     ghost from_gives = { λ _ e. e ≡ fault.Memory };
 
@@ -34,6 +34,16 @@ pub const UNBUILT: ParseFault = ParseFault::Script {
     line: 0,
     reason: Reason::Unbuilt,
 };
+
+/// The job of a text of the form that is built: the head `stm 1`, references, and workers whose
+/// scripts go straight on.
+pub fn parse(alloc: Global, text: &[u8]) -> Result<Job, ParseFault>
+    ensures job { IfOk result (IsTextOf text.now) }
+    ensures refused { result ≡ Err (ParseFault.Script 0 Reason.Unbuilt) → HasNoJob text.now }
+    ensures faults { IfErr result (λ fault. (fault ≡ ParseFault.Script 0 Reason.Unbuilt) ⊎ (fault ≡ ParseFault.Memory)) }
+{
+    job_of(alloc, text)
+}
 
 fn job_of(alloc: Global, text: &[u8]) -> Result<Job, ParseFault>
     ensures { Reads result (job_of text.now) }

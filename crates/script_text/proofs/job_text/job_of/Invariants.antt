@@ -1,7 +1,7 @@
 use Rattle.std.proofs.Common.{◌≡◌, ℕ, length, map}
 use Rattle.text_lines.specs.Lines.{lines, fields}
 use Rattle.script_text.specs.Reading.{job_of, read_on}
-use Rattle.script_text.proofs.parse.job_of.Given as goal
+use Rattle.script_text.proofs.job_text.job_of.Given as goal
 
 -- reading on from here is reading from the start
 abbrev pub invariant-loop-rest : goal.invariant-loop-rest
