@@ -2,53 +2,51 @@
 use Rattle.std.proofs.Common.{◌≡◌, ◌↔◌, ℕ, suc, ◌<◌, ◌-◌, Bool, true, false, not, ◌&&◌, ◌||◌, cond, nat_eq, if◌then◌else◌, IsTrue, List, [], ◌∷◌, ◌++◌, map, filter, length, slice_index, refl, sym, ap, subst, ◌∙◌, append_assoc, length-append, arith}
 use Rattle.std.proofs.lemmas.Bool.Decides.{nat_tests}
 use Rattle.std.proofs.lemmas.Bool.{eqb-true}
-use Rattle.std.proofs.lemmas.Grind.{flat_map-append}
-use Rattle.std.proofs.lemmas.List.{append-nil}
 use Rattle.std.proofs.lemmas.List.Splits.{join_with_byte-slice_split}
-use Rattle.std.specs.List.{slice_split, onto_first, join_with_byte, flat_map, list_all, AllByRecursion}
-use Rattle.text_lines.specs.Lines.{Row, is_feed, is_space, is_nonempty, lines, fields, words, line_of, text_of, spaced, ends_every_line, is_visible, is_word, AreWords, is_field, AreFields}
-use Rattle.text_lines.proofs.Lists.{both, and_true, list_all-join, list_all-weaker, AllByRecursion-map}
+use Rattle.std.specs.List.{onto_first, join_with_byte, flat_map, list_all, AllByRecursion}
+use Rattle.text_lines.specs.Lines.{Row, is_feed, is_space, is_nonempty, lines, fields, words, line_of, text_of, ends_every_line, is_visible, is_word, AreWords, is_field, AreFields}
+use Rattle.text_lines.proofs.Lists.{both, and_true, not_true, not_false, list_all-join, list_all-weaker, AllByRecursion-map}
 
 -- ---- bytes
 
--- a byte that may stand in a line, and one that may stand in a field
-abbrev pub in_line : ℕ → Bool
-in_line b = not (is_feed b)
+-- a byte that may stand in a line, one that may stand between spaces, and one that may do both
+abbrev pub not_feed : ℕ → Bool
+not_feed b = not (is_feed b)
+
+abbrev pub not_space : ℕ → Bool
+not_space b = not (is_space b)
 
 abbrev pub in_field : ℕ → Bool
-in_field b = not (is_space b) && not (is_feed b)
-
-not_true : (b : Bool) → not b ≡ true → b ≡ false
-not_true true h = cc
-not_true false h = refl
-
-not_false : (b : Bool) → b ≡ false → not b ≡ true
-not_false b h = rw h refl
+in_field b = not_space b && not_feed b
 
 visible_in_field : (b : ℕ) → is_visible b ≡ true → in_field b ≡ true
 visible_in_field b h = grind (arith, nat_tests)
 
-field_in_line : (b : ℕ) → in_field b ≡ true → in_line b ≡ true
-field_in_line b h = (both (not (is_space b)) (not (is_feed b)) h).1
+-- a field has no line feed and no space
+pub lacks_feeds : (field : List ℕ) → is_field field ≡ true → list_all not_feed field ≡ true
+lacks_feeds = list_all-weaker in_field not_feed (λ b h. (both (not_space b) (not_feed b) h).1)
 
-no_space : (b : ℕ) → in_field b ≡ true → is_space b ≡ false
-no_space b h = not_true (is_space b) (both (not (is_space b)) (not (is_feed b)) h).0
+pub lacks_spaces : (field : List ℕ) → is_field field ≡ true → list_all not_space field ≡ true
+lacks_spaces = list_all-weaker in_field not_space (λ b h. (both (not_space b) (not_feed b) h).0)
 
 -- ---- a line and its fields
 
-pub fields_first : (field rest : List ℕ) → is_field field ≡ true → fields (field ++ 32 ∷ rest) ≡ field ∷ fields rest
+-- a part without spaces, and a space behind it, is the first field
+pub fields_first : (field rest : List ℕ) → list_all not_space field ≡ true → fields (field ++ 32 ∷ rest) ≡ field ∷ fields rest
 fields_first [] rest h = refl
-fields_first (b ∷ field) rest h = let e = both (in_field b) (is_field field) h in rw (no_space b e.0) (ap (onto_first b) (fields_first field rest e.1))
+fields_first (b ∷ field) rest h = let e = both (not_space b) (list_all not_space field) h in rw (not_true (is_space b) e.0) (ap (onto_first b) (fields_first field rest e.1))
 
-pub fields_last : (field : List ℕ) → is_field field ≡ true → fields field ≡ field ∷ []
+-- a line without spaces is its one field
+pub fields_last : (field : List ℕ) → list_all not_space field ≡ true → fields field ≡ field ∷ []
 fields_last [] h = refl
-fields_last (b ∷ field) h = let e = both (in_field b) (is_field field) h in rw (no_space b e.0) (ap (onto_first b) (fields_last field e.1))
+fields_last (b ∷ field) h = let e = both (not_space b) (list_all not_space field) h in rw (not_true (is_space b) e.0) (ap (onto_first b) (fields_last field e.1))
 
+-- fields come back from a row's line, and so do words
 pub fields_again : (row : Row) → AreFields row → fields (join_with_byte 32 row) ≡ row
 fields_again [] h = absurd (omega arith)
-fields_again (w ∷ []) h = fields_last w h.1.0
+fields_again (w ∷ []) h = fields_last w (lacks_spaces w h.1.0)
 fields_again (w ∷ v ∷ row) h =
-    fields_first w (join_with_byte 32 (v ∷ row)) h.1.0 ∙ ap (λ (r : Row). w ∷ r) (fields_again (v ∷ row) (omega arith, h.1.1))
+    fields_first w (join_with_byte 32 (v ∷ row)) (lacks_spaces w h.1.0) ∙ ap (λ (r : Row). w ∷ r) (fields_again (v ∷ row) (omega arith, h.1.1))
 
 -- a word is a field that isn't empty
 pub word_is_field : (word : List ℕ) → IsTrue (is_word word) → IsTrue (is_field word)
@@ -68,24 +66,26 @@ words_again (w ∷ row) h = ap (filter is_nonempty) (fields_again (w ∷ row) (o
 
 -- ---- a text and its lines
 
-pub lines_first : (line rest : List ℕ) → list_all in_line line ≡ true → lines (line ++ 10 ∷ rest) ≡ line ∷ lines rest
+-- a part without line feeds, and a line feed behind it, is the first line
+pub lines_first : (line rest : List ℕ) → list_all not_feed line ≡ true → lines (line ++ 10 ∷ rest) ≡ line ∷ lines rest
 lines_first [] rest h = refl
-lines_first (b ∷ line) rest h = let e = both (in_line b) (list_all in_line line) h in rw (not_true (is_feed b) e.0) (ap (onto_first b) (lines_first line rest e.1))
+lines_first (b ∷ line) rest h = let e = both (not_feed b) (list_all not_feed line) h in rw (not_true (is_feed b) e.0) (ap (onto_first b) (lines_first line rest e.1))
 
-pub lines_last : (b : ℕ) (line : List ℕ) → list_all in_line (b ∷ line) ≡ true → lines (b ∷ line) ≡ (b ∷ line) ∷ []
-lines_last b [] h = let e = both (in_line b) true h in rw (not_true (is_feed b) e.0) refl
-lines_last b (c ∷ line) h = let e = both (in_line b) (list_all in_line (c ∷ line)) h in rw (not_true (is_feed b) e.0) (ap (onto_first b) (lines_last c line e.1))
+-- a text without line feeds is its one line
+pub lines_last : (b : ℕ) (line : List ℕ) → list_all not_feed (b ∷ line) ≡ true → lines (b ∷ line) ≡ (b ∷ line) ∷ []
+lines_last b [] h = let e = both (not_feed b) true h in rw (not_true (is_feed b) e.0) refl
+lines_last b (c ∷ line) h = let e = both (not_feed b) (list_all not_feed (c ∷ line)) h in rw (not_true (is_feed b) e.0) (ap (onto_first b) (lines_last c line e.1))
 
-pub row_in_line : (row : Row) → AllByRecursion (λ field. IsTrue (is_field field)) row → list_all in_line (join_with_byte 32 row) ≡ true
-row_in_line [] h = refl
-row_in_line (w ∷ []) h = list_all-weaker in_field in_line field_in_line w h.0
-row_in_line (w ∷ v ∷ row) h = list_all-join in_line w (32 ∷ join_with_byte 32 (v ∷ row)) (list_all-weaker in_field in_line field_in_line w h.0) (row_in_line (v ∷ row) h.1)
+pub row_lacks_feeds : (row : Row) → AllByRecursion (λ field. IsTrue (is_field field)) row → list_all not_feed (join_with_byte 32 row) ≡ true
+row_lacks_feeds [] h = refl
+row_lacks_feeds (w ∷ []) h = lacks_feeds w h.0
+row_lacks_feeds (w ∷ v ∷ row) h = list_all-join not_feed w (32 ∷ join_with_byte 32 (v ∷ row)) (lacks_feeds w h.0) (row_lacks_feeds (v ∷ row) h.1)
 
 -- the lines of a text of rows are the rows' lines
 pub lines_again : (rows : List Row) → AllByRecursion (λ row. AllByRecursion (λ field. IsTrue (is_field field)) row) rows → lines (text_of rows) ≡ map (join_with_byte 32) rows
 lines_again [] h = refl
 lines_again (row ∷ rows) h =
-    ap lines (append_assoc (join_with_byte 32 row) (10 ∷ []) (text_of rows)) ∙ lines_first (join_with_byte 32 row) (text_of rows) (row_in_line row h.0)
+    ap lines (append_assoc (join_with_byte 32 row) (10 ∷ []) (text_of rows)) ∙ lines_first (join_with_byte 32 row) (text_of rows) (row_lacks_feeds row h.0)
     ∙ ap (λ (ls : List (List ℕ)). join_with_byte 32 row ∷ ls) (lines_again rows h.1)
 
 -- ---- rows come back
@@ -98,6 +98,7 @@ all_words_are_fields : (rows : List Row) → AllByRecursion AreWords rows → Al
 all_words_are_fields [] h = tt
 all_words_are_fields (row ∷ rows) h = (words_are_fields row h.0, all_words_are_fields rows h.1)
 
+-- rows come back from their text's lines, by words and by fields
 pub words_come_back : (rows : List Row) → AllByRecursion AreWords rows → map words (lines (text_of rows)) ≡ rows
 words_come_back rows h = ap (map words) (lines_again rows (all_words_are_fields rows h)) ∙ words_of_lines rows h
 
@@ -126,15 +127,15 @@ line_same x y p q e =
 
 -- ---- what is read is rows of fields
 
-onto_lines : (b : ℕ) (ls : List (List ℕ)) → in_line b ≡ true → AllByRecursion (λ line. IsTrue (list_all in_line line)) ls → AllByRecursion (λ line. IsTrue (list_all in_line line)) (onto_first b ls)
-onto_lines b [] e h = (and_true (in_line b) true e refl, tt)
-onto_lines b (line ∷ ls) e h = (and_true (in_line b) (list_all in_line line) e h.0, h.1)
+onto_lines : (b : ℕ) (ls : List (List ℕ)) → not_feed b ≡ true → AllByRecursion (λ line. IsTrue (list_all not_feed line)) ls → AllByRecursion (λ line. IsTrue (list_all not_feed line)) (onto_first b ls)
+onto_lines b [] e h = (and_true (not_feed b) true e refl, tt)
+onto_lines b (line ∷ ls) e h = (and_true (not_feed b) (list_all not_feed line) e h.0, h.1)
 
 -- no line has a line feed in it
-pub lines_lack_feeds : (text : List ℕ) → AllByRecursion (λ line. IsTrue (list_all in_line line)) (lines text)
+pub lines_lack_feeds : (text : List ℕ) → AllByRecursion (λ line. IsTrue (list_all not_feed line)) (lines text)
 lines_lack_feeds [] = tt
 lines_lack_feeds (b ∷ text) = at (is_feed b) refl (lines_lack_feeds text) where
-  at : (v : Bool) → is_feed b ≡ v → AllByRecursion (λ line. IsTrue (list_all in_line line)) (lines text) → AllByRecursion (λ line. IsTrue (list_all in_line line)) (lines (b ∷ text))
+  at : (v : Bool) → is_feed b ≡ v → AllByRecursion (λ line. IsTrue (list_all not_feed line)) (lines text) → AllByRecursion (λ line. IsTrue (list_all not_feed line)) (lines (b ∷ text))
   at true e h = rw e (refl, h)
   at false e h = rw e (onto_lines b (lines text) (not_false (is_feed b) e) h)
 
@@ -143,15 +144,16 @@ onto_fields b [] e h = absurd (omega arith)
 onto_fields b (field ∷ row) e h = (omega arith, (and_true (in_field b) (is_field field) e h.1.0, h.1.1))
 
 -- the fields of a line are fields
-pub fields_are_fields : (line : List ℕ) → list_all in_line line ≡ true → AreFields (fields line)
+pub fields_are_fields : (line : List ℕ) → list_all not_feed line ≡ true → AreFields (fields line)
 fields_are_fields [] h = (omega arith, (refl, tt))
-fields_are_fields (b ∷ line) h = let e = both (in_line b) (list_all in_line line) h in at (is_space b) refl e.0 (fields_are_fields line e.1) where
-  at : (v : Bool) → is_space b ≡ v → in_line b ≡ true → AreFields (fields line) → AreFields (fields (b ∷ line))
+fields_are_fields (b ∷ line) h = let e = both (not_feed b) (list_all not_feed line) h in at (is_space b) refl e.0 (fields_are_fields line e.1) where
+  at : (v : Bool) → is_space b ≡ v → not_feed b ≡ true → AreFields (fields line) → AreFields (fields (b ∷ line))
   at true e k h = rw e (omega arith, (refl, h.1))
-  at false e k h = rw e (onto_fields b (fields line) (and_true (not (is_space b)) (in_line b) (not_false (is_space b) e) k) h)
+  at false e k h = rw e (onto_fields b (fields line) (and_true (not (is_space b)) (not_feed b) (not_false (is_space b) e) k) h)
 
+-- what is read of any text is rows of fields
 pub read_are_fields : (text : List ℕ) → AllByRecursion AreFields (map fields (lines text))
-read_are_fields text = AllByRecursion-map (λ line. IsTrue (list_all in_line line)) AreFields fields fields_are_fields (lines text) (lines_lack_feeds text)
+read_are_fields text = AllByRecursion-map (λ line. IsTrue (list_all not_feed line)) AreFields fields fields_are_fields (lines text) (lines_lack_feeds text)
 
 pub only_fields_come_back : (rows : List Row) → map fields (lines (text_of rows)) ≡ rows → AllByRecursion AreFields rows
 only_fields_come_back rows e = subst (λ (rs : List Row). AllByRecursion AreFields rs) e (read_are_fields (text_of rows))
@@ -181,6 +183,7 @@ some_lines b text = at (is_feed b) (lines text) where
   some_onto : (ls : List (List ℕ)) → 0 < length (onto_first b ls)
   some_onto [] = omega arith
   some_onto (line ∷ ls) = omega arith
+
   at : (v : Bool) (ls : List (List ℕ)) → 0 < length (cond v ([] ∷ ls) (onto_first b ls))
   at true ls = omega arith
   at false ls = some_onto ls
@@ -240,22 +243,3 @@ ended_where_same text e = at (ends_every_line text) (sym (text_comes_back text) 
 
 pub ends_where_same : (text : List ℕ) (v : Bool) → v ≡ ends_every_line text → IsTrue v ↔ (text_of (map fields (lines text)) ≡ text)
 ends_where_same text v e = (λ h. same_where_ended text (sym e ∙ h), λ h. e ∙ ended_where_same text h)
-
--- ---- writing rows
-
-join_is : (word : List ℕ) (more : Row) → join_with_byte 32 (word ∷ more) ≡ word ++ spaced more
-join_is word [] = sym (append-nil word)
-join_is word (next ∷ more) = ap (λ (t : List ℕ). word ++ 32 ∷ t) (join_is next more)
-
--- the line of a row, written word by word
-pub line_by_words : (word : List ℕ) (more : Row) → line_of (word ∷ more) ≡ word ++ spaced more ++ 10 ∷ []
-line_by_words word more = ap (λ (t : List ℕ). t ++ 10 ∷ []) (join_is word more)
-
-pub spaced-append : (xs ys : Row) → spaced (xs ++ ys) ≡ spaced xs ++ spaced ys
-spaced-append xs ys = flat_map-append (λ word. 32 ∷ word) xs ys
-
-pub text_of-append : (xs ys : List Row) → text_of (xs ++ ys) ≡ text_of xs ++ text_of ys
-text_of-append xs ys = flat_map-append line_of xs ys
-
-pub text_of-one : (row : Row) → text_of (row ∷ []) ≡ line_of row
-text_of-one row = append-nil (line_of row)

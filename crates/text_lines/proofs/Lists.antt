@@ -9,6 +9,13 @@ both false b h = cc
 pub and_true : (a b : Bool) → a ≡ true → b ≡ true → (a && b) ≡ true
 and_true a b p q = rw (p, q)
 
+pub not_true : (b : Bool) → not b ≡ true → b ≡ false
+not_true true h = cc
+not_true false h = refl
+
+pub not_false : (b : Bool) → b ≡ false → not b ≡ true
+not_false b h = rw h refl
+
 pub list_all-join : {X : Type 0} (p : X → Bool) (xs ys : List X) → list_all p xs ≡ true → list_all p ys ≡ true → list_all p (xs ++ ys) ≡ true
 list_all-join p [] ys h k = k
 list_all-join p (x ∷ xs) ys h k = let e = both (p x) (list_all p xs) h in and_true (p x) (list_all p (xs ++ ys)) e.0 (list_all-join p xs ys e.1 k)
@@ -18,6 +25,7 @@ pub list_all-weaker : {X : Type 0} (p q : X → Bool) → ((x : X) → p x ≡ t
 list_all-weaker p q f [] h = refl
 list_all-weaker p q f (x ∷ xs) h = let e = both (p x) (list_all p xs) h in and_true (q x) (list_all q xs) (f x e.0) (list_all-weaker p q f xs e.1)
 
+-- what holds of each element of two lists holds of both in a row, and of a map where the function keeps it
 pub AllByRecursion-append : {X : Type 0} (P : X → Type 0) (xs ys : List X) → AllByRecursion P xs → AllByRecursion P ys → AllByRecursion P (xs ++ ys)
 AllByRecursion-append P [] ys h k = k
 AllByRecursion-append P (x ∷ xs) ys h k = (h.0, AllByRecursion-append P xs ys h.1 k)

@@ -33,10 +33,14 @@ pub fn cut_line(text: &[u8]) -> (&[u8], &[u8])
     }
 }
 
-/// The first field of a line, and what stands behind the space that ends it; `None` where it is the last.
+/// The first field of a line, and what stands behind the space that ends it; `None` at the last field.
 pub fn cut_field(line: &[u8]) -> (&[u8], Option<&[u8]>)
-    ensures fields { MatchOption result.1 (fields line.now ≡ result.0.now ∷ []) (λ rest. fields line.now ≡ result.0.now ∷ fields rest.now) }
-    ensures bytes { MatchOption result.1 (line.now ≡ result.0.now) (λ rest. line.now ≡ result.0.now ++ 32 ∷ rest.now) }
+    ensures fields { MatchOption result.1
+        (fields line.now ≡ result.0.now ∷ [])
+        (λ rest. fields line.now ≡ result.0.now ∷ fields rest.now) }
+    ensures bytes { MatchOption result.1
+        (line.now ≡ result.0.now)
+        (λ rest. line.now ≡ result.0.now ++ 32 ∷ rest.now) }
     ensures shorter { IfSome result.1 (λ rest. length rest.now < length line.now) }
 {
     match byte_at(line, b' ') {
@@ -45,9 +49,11 @@ pub fn cut_field(line: &[u8]) -> (&[u8], Option<&[u8]>)
     }
 }
 
-/// The first word of a line, and what stands behind it; `None` where the line has no word.
+/// The first word of a line, and what stands behind it and its space; `None` where there is no word.
 pub fn cut_word(line: &[u8]) -> Option<(&[u8], &[u8])>
-    ensures words { MatchOption result (words line.now ≡ []) (λ cut. words line.now ≡ cut.0.now ∷ words cut.1.now) }
+    ensures words { MatchOption result
+        (words line.now ≡ [])
+        (λ cut. words line.now ≡ cut.0.now ∷ words cut.1.now) }
     ensures shorter { IfSome result (λ cut. length cut.1.now < length line.now) }
 {
     match other_at(line, b' ') {
@@ -69,7 +75,7 @@ fn first_word(line: &[u8]) -> (&[u8], &[u8])
     }
 }
 
-/// Whether each line of a text has its line feed, so that the text is the one that its rows of fields make.
+/// Whether each line of a text has its line feed. Just such a text is the one that its fields make.
 pub fn ends_every_line(text: &[u8]) -> bool
     ensures exact { IsTrue result ↔ (text_of (map fields (lines text.now)) ≡ text.now) }
     ensures last_byte { result ≡ ends_every_line text.now }
@@ -98,7 +104,8 @@ fn has_only_digits(word: &[u8]) -> bool
 
 fn value_of_digits(digits: &[u8]) -> Option<u64>
     requires { IsTrue (list_all (λ b. is_ascii_digit b) digits.now) }
-    ensures { result ≡ (if is_nonempty digits.now && nat_lt (digits_value 10 digits.now) (2 ^ 64) then Some (digits_value 10 digits.now) else None) }
+    ensures { let value = digits_value 10 digits.now in
+        result ≡ (if is_nonempty digits.now && nat_lt value (2 ^ 64) then Some value else None) }
 {
     match str::from_utf8(digits) {
         Ok(text) => text.parse::<u64>().ok(),

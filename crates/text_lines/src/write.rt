@@ -38,7 +38,8 @@ pub fn put_number(text: &mut Vec<u8>, number: u64) -> Result<(), Memory>
 pub fn put_word(text: &mut Vec<u8>, word: &[u8]) -> Result<(), Memory>
     ensures ok { OnOk result (text.new.items ≡ text.old.items ++ 32 ∷ word.now) }
     // The space may stand there already.
-    ensures err { OnErr result ((text.new.items ≡ text.old.items) ⊎ (text.new.items ≡ text.old.items ++ 32 ∷ [])) }
+    ensures err { OnErr result ((text.new.items ≡ text.old.items)
+        ⊎ (text.new.items ≡ text.old.items ++ 32 ∷ [])) }
 {
     put(text, b" ")?;
     put(text, word)
@@ -48,7 +49,8 @@ pub fn put_word(text: &mut Vec<u8>, word: &[u8]) -> Result<(), Memory>
 pub fn put_number_word(text: &mut Vec<u8>, number: u64) -> Result<(), Memory>
     ensures ok { OnOk result (text.new.items ≡ text.old.items ++ 32 ∷ decimal number) }
     // The space may stand there already.
-    ensures err { OnErr result ((text.new.items ≡ text.old.items) ⊎ (text.new.items ≡ text.old.items ++ 32 ∷ [])) }
+    ensures err { OnErr result ((text.new.items ≡ text.old.items)
+        ⊎ (text.new.items ≡ text.old.items ++ 32 ∷ [])) }
 {
     let mut buffer = Buffer::new();
     put_word(text, buffer.format(number).as_bytes())
