@@ -28,9 +28,9 @@ read_same [] reader = refl
 read_same (row ∷ rows) reader =
     ap (λ (o : Option Line). o >>= (λ line. taken reader line) >>= λ next. read_on next (map (map plain_word) rows)) (line_same (refs_of reader) row)
     ∙ at (step reader row) (λ next. read_same rows next) where
-  at : (o : Option Reader) → ((next : Reader) → read_on next (map (map plain_word) rows) ≡ read_on next rows) → (o >>= λ next. read_on next (map (map plain_word) rows)) ≡ (o >>= λ next. read_on next rows)
-  at None f = refl
-  at (Some next) f = f next
+      at : (o : Option Reader) → ((next : Reader) → read_on next (map (map plain_word) rows) ≡ read_on next rows) → (o >>= λ next. read_on next (map (map plain_word) rows)) ≡ (o >>= λ next. read_on next rows)
+      at None f = refl
+      at (Some next) f = f next
 
 pub read_fields : (rows : List Row) (reader : Reader) (job : Job) → read_on reader rows ≡ Some job → AllByRecursion AreFields rows
 read_fields [] reader job h = tt
@@ -102,7 +102,7 @@ workers_read : (later : List (List Script)) (o : Opened) (workers : List (List S
 workers_read [] o workers scripts l n g = refl
 workers_read (next ∷ later) o workers scripts l n g =
     let few : taken (now.Worker o workers scripts) says.Worker ≡ Some (now.Worker o (workers ++ scripts ∷ []) []) =
-        ap (λ (b : Bool). cond b (Some (now.Worker o (workers ++ scripts ∷ []) [])) None) (lt_true (length workers) 15 (omega arith)) in
+    ap (λ (b : Bool). cond b (Some (now.Worker o (workers ++ scripts ∷ []) [])) None) (lt_true (length workers) 15 (omega arith)) in
     worker_read (now.Worker o workers scripts) o (workers ++ scripts ∷ []) next (flat_map worker_lines later) l l few g.0
     ∙ workers_read later o (workers ++ scripts ∷ []) next l (omega (arith, length-append workers (scripts ∷ []))) g.1
     ∙ ap (λ (all : List (List Script)). Some (job_with o.refs o.openings all)) (append_assoc workers (scripts ∷ []) (next ∷ later))
@@ -145,8 +145,8 @@ openings_read (opening ∷ openings) o rows l a =
     let up : nat_le o.next opening.0 ≡ true = le_true o.next opening.0 a.0 in
     line_read (now.Openings o) (now.Openings next) (says.Opening opening.0 opening.1) (map opening_line openings ++ rows) l (a.1, a.2) (ap (λ (b : Bool). cond b (Some (now.Openings next)) None) up)
     ∙ openings_read openings next rows l a.3 where
-  le_true : (a b : ℕ) → a ≤ b → nat_le a b ≡ true
-  le_true a b h = grind (arith, nat_tests)
+      le_true : (a b : ℕ) → a ≤ b → nat_le a b ≡ true
+      le_true a b h = grind (arith, nat_tests)
 
 -- ---- whole jobs
 

@@ -71,8 +71,9 @@ set_fit [] refs low next l a = tt
 set_fit (opening ∷ written) refs low next l a = at (nat_eq opening.1 0) refl (λ k. set_fit written refs k (opening.0 + 1)) where
   not_zero : (n : ℕ) → nat_eq n 0 ≡ false → 0 < n
   not_zero n h = grind (arith, nat_tests)
+
   at : (b : Bool) → nat_eq opening.1 0 ≡ b → ((k : ℕ) → k ≤ opening.0 + 1 → OpeningsAscend refs (opening.0 + 1) written → OpeningsFit refs k (filter is_set written))
-    → OpeningsFit refs low (cond (not b) (opening ∷ filter is_set written) (filter is_set written))
+      → OpeningsFit refs low (cond (not b) (opening ∷ filter is_set written) (filter is_set written))
   at true e f = f low (let n = a.0 in omega arith) a.3
   at false e f = ((let n = a.0 in omega arith), a.1, not_zero opening.1 e, a.2, f (opening.0 + 1) (omega arith) a.3)
 
@@ -85,8 +86,8 @@ fit_set [] refs next f = refl
 fit_set (opening ∷ openings) refs next f =
     ap (λ (b : Bool). cond (not b) (opening ∷ filter is_set openings) (filter is_set openings)) (positive opening.1 f.2)
     ∙ ap (λ (os : List (ℕ × ℕ)). opening ∷ os) (fit_set openings refs (opening.0 + 1) f.4) where
-  positive : (n : ℕ) → 0 < n → nat_eq n 0 ≡ false
-  positive n h = grind (arith, nat_tests)
+      positive : (n : ℕ) → 0 < n → nat_eq n 0 ≡ false
+      positive n h = grind (arith, nat_tests)
 
 -- a straight job is made of its references, its openings and its workers
 parts : (job : Job) → IsStraight job → job ≡ job_with job.refs job.openings job.workers
@@ -143,6 +144,7 @@ text_sound text job h = at_end (ends_every_line text) refl h where
     at_head : (b : Bool) → bytes_eq line (codes "stm 1") ≡ b → cond b (read_on now.Head (map fields more)) None ≡ Some job → IsTextOf text job
     at_head true e h = form_of_rows text (map fields more) job (t ∙ ap (λ (l : List ℕ). text_of (fields l ∷ map fields more)) (bytes_same line (codes "stm 1") e)) h
     at_head false e h = cc
+
   at_end : (b : Bool) → ends_every_line text ≡ b → cond b (read_lines (lines text)) None ≡ Some job → IsTextOf text job
   at_end true e h = at_lines (lines text) (sym (same_where_ended text e)) h
   at_end false e h = cc
@@ -186,11 +188,14 @@ pub straight_has_text : (job : Job) → JobFits job → IsStraight job → IsTex
 straight_has_text job f s = form_of_rows (straight_text job) (straight_lines job) job refl (rows_are ∙ read) where
   not_set : (n : ℕ) → not (nat_eq n 0) ≡ false → n ≡ 0
   not_set n h = grind (arith, nat_tests)
+
   flip : (b : Bool) (xs ys : List Row) → cond b xs ys ≡ cond (not b) ys xs
   flip true xs ys = refl
   flip false xs ys = refl
+
   rows_are : read_on now.Head (straight_lines job) ≡ read_on now.Head (rows_of (not (nat_eq job.refs 0)) job.refs job.openings job.workers)
   rows_are = ap (λ (first : List Row). read_on now.Head (first ++ (map opening_line job.openings ++ flat_map worker_lines job.workers))) (flip (nat_eq job.refs 0) [] (refs_line job.refs ∷ []))
+
   read : read_on now.Head (rows_of (not (nat_eq job.refs 0)) job.refs job.openings job.workers) ≡ Some job
   read =
       job_read (not (nat_eq job.refs 0)) job.refs job.openings job.workers (not_set job.refs) f.refs (fit_ascend job.openings job.refs 0 f.openings) f.workers (good_workers job f s)

@@ -274,9 +274,9 @@ pub line_same : (refs : ℕ) (row : Row) → line_of refs (map plain_word row) �
 line_same refs [] = refl
 line_same refs (word ∷ args) =
     ap (λ (o : Option Keyword). o >>= λ k. said refs k (map plain_word args)) (keyword_same word) ∙ at (keyword_of word) where
-  at : (o : Option Keyword) → (o >>= λ k. said refs k (map plain_word args)) ≡ (o >>= λ k. said refs k args)
-  at None = refl
-  at (Some k) = said_same refs k args
+      at : (o : Option Keyword) → (o >>= λ k. said refs k (map plain_word args)) ≡ (o >>= λ k. said refs k args)
+      at None = refl
+      at (Some k) = said_same refs k args
 
 -- ---- the canonical row of a line says this line
 
@@ -309,10 +309,10 @@ line_again refs l (says.Refs n) f = record {
 }
 line_again refs l (says.Opening cell n) f =
     let e = lt_true cell refs f.0 in record {
-  row = opening_line (cell, n);
-  rows = refl;
-  says = two_again (below_way refs) number_way (λ cell n. says.Opening cell n) cell n (and_true (nat_lt cell refs && nat_lt cell (2 ^ 64)) (nat_lt n (2 ^ 64)) (and_true (nat_lt cell refs) (nat_lt cell (2 ^ 64)) e (small refs cell l e)) (lt_true n (2 ^ 64) f.1));
-}
+      row = opening_line (cell, n);
+      rows = refl;
+      says = two_again (below_way refs) number_way (λ cell n. says.Opening cell n) cell n (and_true (nat_lt cell refs && nat_lt cell (2 ^ 64)) (nat_lt n (2 ^ 64)) (and_true (nat_lt cell refs) (nat_lt cell (2 ^ 64)) e (small refs cell l e)) (lt_true n (2 ^ 64) f.1));
+    }
 line_again refs l says.Worker f = record { row = codes "worker" ∷ []; rows = refl; says = refl }
 line_again refs l says.Script f = record { row = codes "script" ∷ []; rows = refl; says = refl }
 line_again refs l says.End f = record { row = codes "end" ∷ []; rows = refl; says = refl }

@@ -82,7 +82,10 @@ Limits (now.Script o workers scripts block) = (length workers < 16) × (length s
 
 ended : (reader : Reader) (job : Job) → Limits reader → finished reader ≡ Some job → From reader [] job
 ended now.Head job l h = record {
-  header = false; refs = 0; written = []; workers = [];
+  header = false;
+  refs = 0;
+  written = [];
+  workers = [];
   rows_are = refl;
   job_is = sym (some_same (job_with 0 [] []) job h);
   no_header = λ _. refl;
@@ -92,7 +95,8 @@ ended now.Head job l h = record {
   good = tt;
 }
 ended (now.Openings o) job l h = record {
-  written = []; workers = [];
+  written = [];
+  workers = [];
   rows_are = refl;
   job_is = sym (some_same (job_with o.refs o.openings []) job h) ∙ ap (λ (os : List (ℕ × ℕ)). job_with o.refs os []) (sym (append-nil o.openings));
   ascending = tt;
@@ -100,7 +104,8 @@ ended (now.Openings o) job l h = record {
   good = tt;
 }
 ended (now.Worker o workers scripts) job l h = record {
-  more = []; later = [];
+  more = [];
+  later = [];
   rows_are = refl;
   job_is = sym (some_same (job_with o.refs o.openings (workers ++ scripts ∷ [])) job h) ∙ ap (λ (s : List Script). job_with o.refs o.openings (workers ++ s ∷ [])) (sym (append-nil scripts));
   few = omega (arith, l.1);
@@ -135,34 +140,34 @@ end_leads : (o : Opened) (workers : List (List Script)) (scripts : List Script) 
     → FromWorker o workers (scripts ++ record { block = before } ∷ []) rows job → FromScript o workers scripts before (end_line ∷ rows) job
 end_leads o workers scripts before rows job r =
     let script : Script = record { block = before } in record {
-  block = [];
-  more = r.more;
-  later = r.later;
-  rows_are = ap (λ (rs : List Row). end_line ∷ rs) r.rows_are;
-  job_is = r.job_is ∙ ap (λ (s : List Script). job_with o.refs o.openings (workers ++ s ∷ r.later)) (append_assoc scripts (script ∷ []) r.more)
-      ∙ ap (λ (b : List Statement). job_with o.refs o.openings (workers ++ (scripts ++ record { block = b } ∷ r.more) ∷ r.later)) (sym (append-nil before));
-  few = let n = r.few in omega (arith, n, length-append scripts (script ∷ []));
-  few_later = r.few_later;
-  good = tt;
-  good_more = r.good_more;
-  good_later = r.good_later;
-}
+      block = [];
+      more = r.more;
+      later = r.later;
+      rows_are = ap (λ (rs : List Row). end_line ∷ rs) r.rows_are;
+      job_is = r.job_is ∙ ap (λ (s : List Script). job_with o.refs o.openings (workers ++ s ∷ r.later)) (append_assoc scripts (script ∷ []) r.more)
+          ∙ ap (λ (b : List Statement). job_with o.refs o.openings (workers ++ (scripts ++ record { block = b } ∷ r.more) ∷ r.later)) (sym (append-nil before));
+      few = let n = r.few in omega (arith, n, length-append scripts (script ∷ []));
+      few_later = r.few_later;
+      good = tt;
+      good_more = r.good_more;
+      good_later = r.good_later;
+    }
 
 script_leads : (o : Opened) (workers : List (List Script)) (scripts : List Script) (rows : List Row) (job : Job)
     → FromScript o workers scripts [] rows job → FromWorker o workers scripts ((codes "script" ∷ []) ∷ rows) job
 script_leads o workers scripts rows job r =
     let script : Script = record { block = r.block } in record {
-  more = script ∷ r.more;
-  later = r.later;
-  rows_are = ap (λ (rs : List Row). (codes "script" ∷ []) ∷ rs) (r.rows_are
-      ∙ sym (append_assoc (block_lines r.block) (end_line ∷ []) (flat_map script_lines r.more ++ flat_map worker_lines r.later)))
-      ∙ sym (append_assoc (script_lines script) (flat_map script_lines r.more) (flat_map worker_lines r.later));
-  job_is = r.job_is;
-  few = let n = r.few in omega (arith, n);
-  few_later = r.few_later;
-  good_more = (r.good, r.good_more);
-  good_later = r.good_later;
-}
+      more = script ∷ r.more;
+      later = r.later;
+      rows_are = ap (λ (rs : List Row). (codes "script" ∷ []) ∷ rs) (r.rows_are
+          ∙ sym (append_assoc (block_lines r.block) (end_line ∷ []) (flat_map script_lines r.more ++ flat_map worker_lines r.later)))
+          ∙ sym (append_assoc (script_lines script) (flat_map script_lines r.more) (flat_map worker_lines r.later));
+      job_is = r.job_is;
+      few = let n = r.few in omega (arith, n);
+      few_later = r.few_later;
+      good_more = (r.good, r.good_more);
+      good_later = r.good_later;
+    }
 
 worker_leads : (o : Opened) (workers : List (List Script)) (scripts : List Script) (rows : List Row) (job : Job) → length scripts ≤ 4096
     → FromWorker o (workers ++ scripts ∷ []) [] rows job → FromWorker o workers scripts ((codes "worker" ∷ []) ∷ rows) job
@@ -198,30 +203,30 @@ first_worker o rows job r = record {
 workers_lead : (o : Opened) (rows : List Row) (job : Job) → FromWorker o [] [] rows job → FromOpenings o ((codes "worker" ∷ []) ∷ rows) job
 workers_lead o rows job r =
     let a = first_worker o rows job r in record {
-  written = [];
-  workers = a.workers;
-  rows_are = a.rows_are;
-  job_is = a.job_is ∙ ap (λ (os : List (ℕ × ℕ)). job_with o.refs os a.workers) (sym (append-nil o.openings));
-  ascending = tt;
-  few = a.few;
-  good = a.good;
-}
+      written = [];
+      workers = a.workers;
+      rows_are = a.rows_are;
+      job_is = a.job_is ∙ ap (λ (os : List (ℕ × ℕ)). job_with o.refs os a.workers) (sym (append-nil o.openings));
+      ascending = tt;
+      few = a.few;
+      good = a.good;
+    }
 
 bare_workers_lead : (rows : List Row) (job : Job) → FromWorker (opened 0) [] [] rows job → FromHead ((codes "worker" ∷ []) ∷ rows) job
 bare_workers_lead rows job r =
     let a = first_worker (opened 0) rows job r in record {
-  header = false;
-  refs = 0;
-  written = [];
-  workers = a.workers;
-  rows_are = a.rows_are;
-  job_is = a.job_is;
-  no_header = λ _. refl;
-  limit = omega arith;
-  ascending = tt;
-  few = a.few;
-  good = a.good;
-}
+      header = false;
+      refs = 0;
+      written = [];
+      workers = a.workers;
+      rows_are = a.rows_are;
+      job_is = a.job_is;
+      no_header = λ _. refl;
+      limit = omega arith;
+      ascending = tt;
+      few = a.few;
+      good = a.good;
+    }
 
 opening_leads : (o : Opened) (cell n : ℕ) (rows : List Row) (job : Job) → o.next ≤ cell → LineFits o.refs (says.Opening cell n)
     → FromOpenings (with_opening o cell n) rows job → FromOpenings o (opening_line (cell, n) ∷ rows) job
@@ -258,8 +263,8 @@ leads now.Head says.Worker next rows job l f h =
 leads (now.Openings o) (says.Opening cell n) next rows job l f h =
     let e = some_if (nat_le o.next cell) (now.Openings (with_opening o cell n)) next h in
     subst (Leads (now.Openings o) (says.Opening cell n) rows job) e.1 (tt, opening_leads o cell n rows job (true_le o.next cell e.0) f) where
-  true_le : (a b : ℕ) → nat_le a b ≡ true → a ≤ b
-  true_le a b h = grind (arith, nat_tests)
+      true_le : (a b : ℕ) → nat_le a b ≡ true → a ≤ b
+      true_le a b h = grind (arith, nat_tests)
 leads (now.Openings o) says.Worker next rows job l f h =
     subst (Leads (now.Openings o) says.Worker rows job) (some_same (now.Worker o [] []) next h) ((omega arith, omega arith), workers_lead o rows job)
 leads (now.Worker o workers scripts) says.Worker next rows job l f h =
@@ -274,7 +279,7 @@ leads (now.Script o workers scripts block) (says.Plain m) next rows job l f h =
 leads (now.Script o workers scripts block) says.End next rows job l f h =
     let script : Script = record { block = block } in
     subst (Leads (now.Script o workers scripts block) says.End rows job) (some_same (now.Worker o workers (scripts ++ script ∷ [])) next h)
-        ((l.0, omega (arith, l.1, length-append scripts (script ∷ []))), end_leads o workers scripts block rows job)
+    ((l.0, omega (arith, l.1, length-append scripts (script ∷ []))), end_leads o workers scripts block rows job)
 leads _ _ next rows job l f h = cc
 
 read_from : (rows : List Row) (reader : Reader) (job : Job) → Limits reader → read_on reader rows ≡ Some job → From reader (map (map plain_word) rows) job

@@ -89,9 +89,9 @@ pub number_of_other : (b : ℕ) (w : List ℕ) → is_ascii_digit b ≡ false �
 number_of_other b w h =
     let e : is_number (b ∷ w) ≡ false = at (is_ascii_digit b) h in
     ap (λ (v : Bool). cond v (Some (digits_value 10 (b ∷ w))) None) e where
-  at : (d : Bool) → d ≡ false → (nat_le (length (b ∷ w)) 20 && (d && all_digits w) && is_nonempty (b ∷ w) && nat_lt (digits_value 10 (b ∷ w)) (2 ^ 64)) ≡ false
-  at true e = cc
-  at false e = no_number (nat_le (length (b ∷ w)) 20) (is_nonempty (b ∷ w)) (nat_lt (digits_value 10 (b ∷ w)) (2 ^ 64))
+      at : (d : Bool) → d ≡ false → (nat_le (length (b ∷ w)) 20 && (d && all_digits w) && is_nonempty (b ∷ w) && nat_lt (digits_value 10 (b ∷ w)) (2 ^ 64)) ≡ false
+      at true e = cc
+      at false e = no_number (nat_le (length (b ∷ w)) 20) (is_nonempty (b ∷ w)) (nat_lt (digits_value 10 (b ∷ w)) (2 ^ 64))
 
 -- a word with no number keeps what is read of it in its plain form, if nothing is read of numbers
 pub same_beside : {A : Type 0} (read : List ℕ → Option A) → ((w : List ℕ) (n : ℕ) → number_of w ≡ Some n → read w ≡ None) → (w : List ℕ) → read (plain_word w) ≡ read w
@@ -192,11 +192,11 @@ pub operand_some : (w : List ℕ) (x : Operand) → operand_of w ≡ Some x → 
 operand_some w x h = at (register_of w) refl h where
   at : (o : Option ℕ) → register_of w ≡ o → register_or o w ≡ Some x → (plain_word w ≡ operand_word x) × (operand_fits x ≡ true) × IsTrue (is_word w)
   at (Some r) e h =
-    let q = some_same (Reg r) x h in
-    (register_way.plain w r e ∙ ap operand_word q, sym (ap operand_fits q) ∙ register_way.within w r e, register_visible w r e)
+      let q = some_same (Reg r) x h in
+      (register_way.plain w r e ∙ ap operand_word q, sym (ap operand_fits q) ∙ register_way.within w r e, register_visible w r e)
   at None e h =
-    let b = number_some w x h in
-    (plain_number w b.0 b.1 ∙ ap operand_word b.2, sym (ap operand_fits b.2) ∙ lt_true b.0 (2 ^ 64) (number_below w b.0 b.1), number_word w b.0 b.1)
+      let b = number_some w x h in
+      (plain_number w b.0 b.1 ∙ ap operand_word b.2, sym (ap operand_fits b.2) ∙ lt_true b.0 (2 ^ 64) (number_below w b.0 b.1), number_word w b.0 b.1)
 
 pub operand_again : (x : Operand) → operand_fits x ≡ true → operand_of (operand_word x) ≡ Some x
 operand_again (Reg r) h = ap (λ (o : Option ℕ). register_or o (register_word r)) (register_again r h)
@@ -208,9 +208,9 @@ operand_again (Number n) h =
 pub operand_same : (w : List ℕ) → operand_of (plain_word w) ≡ operand_of w
 operand_same w =
     ap (λ (o : Option ℕ). register_or o (plain_word w)) (register_way.same w) ∙ at (register_of w) where
-  at : (o : Option ℕ) → register_or o (plain_word w) ≡ register_or o w
-  at (Some r) = refl
-  at None = ap (λ (o : Option ℕ). o >>= λ n. Some (Number n)) (number_of-plain w)
+      at : (o : Option ℕ) → register_or o (plain_word w) ≡ register_or o w
+      at (Some r) = refl
+      at None = ap (λ (o : Option ℕ). o >>= λ n. Some (Number n)) (number_of-plain w)
 
 abbrev pub operand_way : Way Operand
 operand_way = record {
@@ -233,8 +233,8 @@ bytes_same (x ∷ xs) [] h = cc
 bytes_same (x ∷ xs) (y ∷ ys) h =
     let e = both (nat_eq x y) (bytes_eq xs ys) h in
     ap (λ (z : ℕ). z ∷ xs) (same_of x y e.0) ∙ ap (λ (zs : List ℕ). y ∷ zs) (bytes_same xs ys e.1) where
-  same_of : (a b : ℕ) → nat_eq a b ≡ true → a ≡ b
-  same_of a b h = grind (arith, nat_tests)
+      same_of : (a b : ℕ) → nat_eq a b ≡ true → a ≡ b
+      same_of a b h = grind (arith, nat_tests)
 
 named_is : (ks : List Keyword) (w : List ℕ) (k : Keyword) → named ks w ≡ Some k → w ≡ keyword_word k
 named_is [] w k h = cc

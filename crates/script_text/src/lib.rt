@@ -4,8 +4,10 @@
 mod job_text;
 pub mod laws;
 mod line;
-
 mod reader;
 mod words;
 
 pub use job_text::{ParseFault, parse};
+
+#[cfg(test)]
+mod tests;

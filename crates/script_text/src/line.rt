@@ -6,7 +6,9 @@ ghost use Rattle.text_lines.specs.Lines.{fields};
 ghost use Rattle.script_text.specs.Words.{fields_behind};
 ghost use Rattle.script_text.specs.Reading.{statement_of, said, line_of};
 
-use crate::words::{Keyword, below, keyword_of, no_field, one_field, operand_of, register_of, two_fields};
+use crate::words::{
+    Keyword, below, keyword_of, no_field, one_field, operand_of, register_of, two_fields,
+};
 use ledger_model::Statement;
 use text_lines::{cut_field, number_of};
 
