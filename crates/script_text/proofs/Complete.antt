@@ -1,5 +1,5 @@
 -- The canonical lines of a job within the limits are read as this job.
-use Rattle.std.proofs.Common.{◌≡◌, ℕ, ◌+◌, ◌<◌, ◌≤◌, ◌^◌, Bool, true, false, ◌&&◌, not, cond, nat_eq, nat_lt, nat_le, if◌then◌else◌, List, [], ◌∷◌, ◌++◌, length, map, filter, Option, Some, None, refl, sym, ap, subst, ◌∙◌, append_assoc, append-nil, length-append, arith, codes}
+use Rattle.std.proofs.Common.{◌≡◌, ℕ, ◌+◌, ◌<◌, ◌≤◌, Bool, true, false, not, cond, nat_eq, nat_le, if◌then◌else◌, List, [], ◌∷◌, ◌++◌, length, map, filter, Option, Some, None, refl, sym, ap, subst, ◌∙◌, append_assoc, append-nil, length-append, arith}
 use Rattle.std.proofs.lemmas.Bool.Decides.{nat_tests}
 use Rattle.std.specs.List.{AllByRecursion, flat_map}
 use Rattle.text_lines.specs.Lines.{Row, AreFields}
@@ -19,7 +19,7 @@ use Rattle.script_text.specs.Printing.{refs_line, opening_line, end_line, statem
 use Rattle.script_text.specs.Form.{OpeningsAscend, is_set}
 use Rattle.script_text.proofs.Options.{bind_some}
 use Rattle.script_text.proofs.WordLemmas.{lt_true}
-use Rattle.script_text.proofs.LineLemmas.{Good, LineFits, line_rows, Spelled, line_again, line_same, line_says}
+use Rattle.script_text.proofs.LineLemmas.{Good, LineFits, line_rows, line_again, line_same, line_says}
 
 -- ---- the plain form of rows is read alike, and rows that are read consist of fields
 

@@ -1,12 +1,12 @@
 -- A text is of the form, for a job, exactly where it is read as this job.
-use Rattle.std.proofs.Common.{◌≡◌, ℕ, ◌+◌, ◌<◌, ◌≤◌, ◌^◌, Bool, true, false, ◌&&◌, not, cond, nat_eq, nat_lt, nat_le, if◌then◌else◌, IsTrue, List, [], ◌∷◌, ◌++◌, length, map, filter, Option, Some, None, Result, Ok, Err, IfOk, refl, sym, ap, subst, ◌∙◌, arith, codes}
+use Rattle.std.proofs.Common.{◌≡◌, ℕ, ◌+◌, ◌<◌, ◌≤◌, Bool, true, false, not, cond, nat_eq, IsTrue, List, [], ◌∷◌, ◌++◌, length, map, filter, Some, None, Result, Ok, Err, IfOk, refl, sym, ap, subst, ◌∙◌, arith, codes}
 use Rattle.std.proofs.lemmas.Bool.Decides.{nat_tests}
 use Rattle.std.specs.List.{AllByRecursion, flat_map, join_with_byte}
 use Rattle.std.specs.Str.{bytes_eq}
-use Rattle.text_lines.specs.Lines.{Row, AreWords, AreFields, is_field, lines, fields, text_of, ends_every_line}
+use Rattle.text_lines.specs.Lines.{Row, AreFields, is_field, lines, fields, text_of, ends_every_line}
 use Rattle.text_lines.specs.Numbers.{plain_word}
-use Rattle.text_lines.proofs.Lists.{both, and_true, AllByRecursion-map}
-use Rattle.text_lines.proofs.LineLemmas.{lines_again, words_are_fields, fields_come_back, same_where_ended, ended_where_same}
+use Rattle.text_lines.proofs.Lists.{both, and_true}
+use Rattle.text_lines.proofs.LineLemmas.{lines_again, fields_come_back, same_where_ended, ended_where_same}
 use Rattle.ledger_model.specs.declared.job.Job.{Job}
 use Rattle.ledger_model.specs.declared.reason.Reason.TheVariants.{Unbuilt}
 use Rattle.ledger_model.specs.declared.script.Script.{Script}
@@ -19,9 +19,9 @@ use Rattle.script_text.specs.declared.reader.Reader.TheVariants as now
 use Rattle.script_text.specs.Reading.{read_on, read_lines, job_of, job_with, Reads}
 use Rattle.script_text.specs.Printing.{head_line, refs_line, opening_line, worker_lines}
 use Rattle.script_text.specs.Form.{OpeningsAscend, is_set, IsTextOf, HasNoJob, straight_lines, straight_text}
-use Rattle.script_text.proofs.Options.{some_if, some_same}
+use Rattle.script_text.proofs.Options.{some_same}
 use Rattle.script_text.proofs.WordLemmas.{bytes_same}
-use Rattle.script_text.proofs.LineLemmas.{only, Good}
+use Rattle.script_text.proofs.LineLemmas.{only}
 use Rattle.script_text.proofs.Complete.{GoodBlock, GoodScripts, GoodWorkers, rows_of, job_read, read_same, read_fields}
 use Rattle.script_text.proofs.Sound.{FromHead, read_from_head}
 

@@ -1,20 +1,17 @@
 -- What a line says, and its canonical line.
-use Rattle.std.proofs.Common.{◌≡◌, ℕ, ◌+◌, ◌<◌, ◌≤◌, ◌^◌, Bool, true, false, ◌&&◌, nat_lt, IsTrue, List, [], ◌∷◌, ◌++◌, map, Option, Some, None, refl, sym, ap, subst, ◌∙◌, arith, codes, decimal}
-use Rattle.std.proofs.lemmas.Bool.Decides.{nat_tests}
-use Rattle.std.specs.List.{AllByRecursion}
-use Rattle.text_lines.specs.Lines.{Row, AreWords, is_word}
-use Rattle.text_lines.specs.Numbers.{number_of, plain_word}
+use Rattle.std.proofs.Common.{◌≡◌, ℕ, ◌<◌, ◌≤◌, ◌^◌, Bool, true, false, ◌&&◌, nat_lt, List, [], ◌∷◌, map, Option, Some, None, refl, sym, ap, subst, ◌∙◌, arith, codes, decimal}
+use Rattle.text_lines.specs.Lines.{Row, AreWords}
+use Rattle.text_lines.specs.Numbers.{plain_word}
 use Rattle.text_lines.proofs.Lists.{both, and_true}
 use Rattle.ledger_model.specs.Fits.{Places, is_register, operand_fits, fits, fits_step}
 use Rattle.ledger_model.specs.Straight.{is_straight}
-use Rattle.ledger_model.specs.declared.script.Operand.{Operand}
 use Rattle.ledger_model.specs.declared.script.Statement.{Statement}
 use Rattle.ledger_model.specs.declared.script.Statement.TheVariants as made
 use Rattle.script_text.specs.declared.words.Keyword.{Keyword}
 use Rattle.script_text.specs.declared.words.Keyword.TheVariants as key
 use Rattle.script_text.specs.declared.line.Line.{Line}
 use Rattle.script_text.specs.declared.line.Line.TheVariants as says
-use Rattle.script_text.specs.Words.{◌>>=◌, keyword_word, keyword_of, below, register_of, operand_of, no_field, one_field, two_fields}
+use Rattle.script_text.specs.Words.{◌>>=◌, keyword_word, keyword_of, no_field}
 use Rattle.script_text.specs.Reading.{one, two, statement_of, said, line_of}
 use Rattle.script_text.specs.Printing.{register_word, operand_word, refs_line, opening_line, end_line, statement_lines, statement_step}
 use Rattle.script_text.proofs.Options.{bind_some, some_same}

@@ -1,6 +1,5 @@
 -- The straight statements: what a fold makes of them, and that there are no others.
-use Rattle.std.proofs.Common.{◌≡◌, ℕ, ◌^◌, Bool, true, false, ◌&&◌, nat_lt, List, [], ◌∷◌, refl, sym, ap, subst, ◌∙◌, codes, decimal}
-use Rattle.text_lines.specs.Lines.{Row}
+use Rattle.std.proofs.Common.{◌≡◌, ℕ, Bool, true, refl, sym, ap, ◌∙◌}
 use Rattle.ledger_model.specs.declared.script.Operand.{Operand}
 use Rattle.ledger_model.specs.declared.script.Statement.{Statement}
 use Rattle.ledger_model.specs.declared.script.Statement.TheOpen.{Statement-F}

@@ -1,5 +1,5 @@
 -- Ways to read a word, and the canonical words of what is read.
-use Rattle.std.proofs.Common.{◌≡◌, ℕ, zero, suc, ◌<◌, ◌≤◌, ◌^◌, Bool, true, false, ◌&&◌, not, cond, nat_eq, nat_lt, nat_le, if◌then◌else◌, IsTrue, List, [], ◌∷◌, ◌++◌, length, get_or, Option, Some, None, refl, sym, ap, ◌∙◌, subst, arith, codes, decimal}
+use Rattle.std.proofs.Common.{◌≡◌, ℕ, zero, suc, ◌<◌, ◌^◌, Bool, true, false, ◌&&◌, not, cond, nat_eq, nat_lt, nat_le, if◌then◌else◌, IsTrue, List, [], ◌∷◌, length, get_or, Option, Some, None, refl, sym, ap, ◌∙◌, subst, arith, decimal}
 use Rattle.std.proofs.lemmas.Bool.Decides.{nat_tests}
 use Rattle.std.proofs.lemmas.Fmt.{decimal-digits_value, decimal_digit, first_decimal}
 use Rattle.std.specs.Char.{is_ascii_digit}
@@ -9,7 +9,7 @@ use Rattle.std.specs.Str.Parse.{digits_value}
 use Rattle.text_lines.specs.Lines.{is_word, is_visible, is_nonempty}
 use Rattle.text_lines.specs.Numbers.{is_number, number_of, plain_word}
 use Rattle.text_lines.proofs.Lists.{both, and_true}
-use Rattle.text_lines.proofs.NumberLemmas.{all_digits, own_digits, decimal_digits, decimal_word, number_of-decimal, number_below, number_word, plain_number, plain_other, number_of-plain}
+use Rattle.text_lines.proofs.NumberLemmas.{all_digits, own_digits, decimal_word, number_of-decimal, number_below, number_word, plain_number, plain_other, number_of-plain}
 use Rattle.ledger_model.specs.Fits.{is_register, operand_fits}
 use Rattle.ledger_model.specs.declared.script.Operand.{Operand}
 use Rattle.ledger_model.specs.declared.script.Operand.TheVariants.{Reg, Number}

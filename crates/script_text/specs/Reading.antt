@@ -1,5 +1,5 @@
 -- Which job the lines of a text say: one step for each line.
-use Rattle.std.specs.Prelude.{◌≡◌, ℕ, ◌+◌, Bool, nat_eq, nat_lt, nat_le, if◌then◌else◌, List, [], ◌∷◌, ◌++◌, length, map, codes, bytes_eq, Option, Some, None, Result, Ok, Err}
+use Rattle.std.specs.Prelude.{◌≡◌, ℕ, ◌+◌, nat_eq, nat_lt, nat_le, if◌then◌else◌, List, [], ◌∷◌, ◌++◌, length, map, codes, bytes_eq, Option, Some, None, Result, Ok, Err}
 use Rattle.text_lines.specs.Lines.{Row, lines, fields, ends_every_line}
 use Rattle.text_lines.specs.Numbers.{number_of}
 use Rattle.ledger_model.specs.declared.job.Job.{Job}

@@ -1,4 +1,4 @@
-use Rattle.std.proofs.Common.{◌≡◌, ℕ, length, map}
+use Rattle.std.proofs.Common.{◌≡◌, length, map}
 use Rattle.text_lines.specs.Lines.{lines, fields}
 use Rattle.script_text.specs.Reading.{job_of, read_on}
 use Rattle.script_text.proofs.job_text.job_of.Given as goal

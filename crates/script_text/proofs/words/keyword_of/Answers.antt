@@ -1,4 +1,4 @@
-use Rattle.std.proofs.Common.{rules, ◌≡◌, ℕ, List, [], ◌∷◌, length, codes, refl, arith}
+use Rattle.std.proofs.Common.{rules, ◌≡◌, codes, refl, arith}
 use Rattle.std.proofs.lemmas.Slice.Eq.{text_from_reads}
 use Rattle.script_text.proofs.words.keyword_of.Goals as goal
 
