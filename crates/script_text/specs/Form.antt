@@ -1,5 +1,5 @@
 -- Which text is which job, in the form that is built: references, and scripts that go straight on.
-use Rattle.std.specs.Prelude.{◌≡◌, ℕ, ◌+◌, ◌^◌, ◌<◌, ◌≤◌, Bool, true, false, not, nat_eq, if◌then◌else◌, List, [], ◌∷◌, ◌++◌, map, filter, flat_map}
+use Rattle.std.specs.Prelude.{◌≡◌, ℕ, ◌+◌, ◌^◌, ◌<◌, ◌≤◌, Bool, false, not, nat_eq, if◌then◌else◌, List, [], ◌∷◌, ◌++◌, map, filter, flat_map}
 use Rattle.text_lines.specs.Lines.{Row, text_of}
 use Rattle.text_lines.specs.Numbers.{plain_word}
 use Rattle.ledger_model.specs.declared.job.Job.{Job}
@@ -31,3 +31,14 @@ pub record IsTextOf (text : List ℕ) (job : Job) : Type 0 where
   pub openings : job.openings ≡ filter is_set written
   pub fits : JobFits job
   pub straight : IsStraight job
+
+-- no job has this text
+abbrev pub HasNoJob : List ℕ → Type 0
+HasNoJob text = (job : Job) → IsTextOf text job → ⊥
+
+-- the canonical text of a straight job, with a `refs` line where there are references
+abbrev pub straight_lines : Job → List Row
+straight_lines job = (if nat_eq job.refs 0 then [] else refs_line job.refs ∷ []) ++ (map opening_line job.openings ++ flat_map worker_lines job.workers)
+
+abbrev pub straight_text : Job → List ℕ
+straight_text job = text_of (head_line ∷ straight_lines job)

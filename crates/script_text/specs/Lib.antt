@@ -1,2 +1,4 @@
 pub mod Form
 pub mod Printing
+pub mod Reading
+pub mod Words

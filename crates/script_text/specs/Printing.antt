@@ -1,7 +1,6 @@
 -- The canonical lines of a job: one space between words, no leading zeros.
-use Rattle.std.specs.Prelude.{ℕ, zero, suc, List, [], ◌∷◌, ◌++◌, codes, decimal, map, flat_map}
+use Rattle.std.specs.Prelude.{ℕ, List, [], ◌∷◌, ◌++◌, codes, decimal, map, flat_map}
 use Rattle.text_lines.specs.Lines.{Row}
-use Rattle.stm_model.specs.declared.cause.HookPhase.{HookPhase}
 use Rattle.ledger_model.specs.declared.script.Operand.{Operand}
 use Rattle.ledger_model.specs.declared.script.Operand.TheVariants.{Reg, Number}
 use Rattle.ledger_model.specs.declared.script.Script.{Script}
