@@ -82,7 +82,7 @@ itself : (o : Outcome) → o.end ≡ Kept → kept o.after ≡ o
 itself o e = ap (λ (end : End). let outcome : Outcome = record { end = end; after = o.after } in outcome) (sym e)
 
 -- a straight script's run is that of its block
-pub run-straight : (block : List Statement) (contents : Contents) → AllByRecursion (λ statement. IsTrue (is_straight statement)) block
+run-straight : (block : List Statement) (contents : Contents) → AllByRecursion (λ statement. IsTrue (is_straight statement)) block
     → run block contents ≡ run_block block (start contents)
 run-straight block contents h =
     let g = goes_on_block block h (start contents) in

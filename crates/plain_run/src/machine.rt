@@ -28,9 +28,12 @@ pub fn run_script(alloc: Global, contents: Contents, script: &Script) -> Result<
     requires straight { IsStraightScript script.now }
     requires fits { ScriptFits (places_in contents) script.now }
     ensures plain { IsPlain (run script.now.block contents) }
-    ensures contents { IfOk result (λ ran. ran.contents ≡ (run script.now.block contents).after.contents) }
-    ensures wrote { IfOk result (λ ran. ran.wrote ≡ (run script.now.block contents).after.wrote) }
-    ensures prints { IfOk result (λ ran. ran.prints ≡ (run script.now.block contents).after.prints) }
+    ensures contents { IfOk result (λ ran.
+        ran.contents ≡ (run script.now.block contents).after.contents) }
+    ensures wrote { IfOk result (λ ran.
+        ran.wrote ≡ (run script.now.block contents).after.wrote) }
+    ensures prints { IfOk result (λ ran.
+        ran.prints ≡ (run script.now.block contents).after.prints) }
     ensures unchanged { IfOk result (λ ran. ran.wrote ≡ false → ran.contents ≡ contents) }
     ensures places { IfOk result (λ ran. places_in ran.contents ≡ places_in contents) }
 {
@@ -191,7 +194,8 @@ impl Machine {
     }
 
     fn run_block(&mut self, block: &[Statement]) -> Result<(), Memory>
-        requires straight { AllByRecursion (λ statement. IsTrue (is_straight statement)) block.now }
+        requires straight { AllByRecursion
+            (λ statement. IsTrue (is_straight statement)) block.now }
         requires fits { IsTrue (block_fits (places_in self.old.contents) 32 block.now) }
         ensures outcome { OnOk result (run_block block.now self.old ≡ kept self.new) }
         ensures places { places_in self.new.contents ≡ places_in self.old.contents }

@@ -28,7 +28,8 @@ const SETTINGS: Settings = Settings {
 /// Prints a sum and a difference of two numbers.
 fn sum_and_rest(alloc: Global, left: u64, right: u64) -> Result<Script, Memory>
     ensures straight { IfOk result (λ script. IsStraightScript script) }
-    ensures fits { IfOk result (λ script. ScriptFits (record { refs = 0; maps = 0; snaps = 0 }) script) }
+    ensures fits { IfOk result (λ script.
+        ScriptFits (record { refs = 0; maps = 0; snaps = 0 }) script) }
 {
     let mut block = Block::new(alloc);
     block.push(Statement::Const {
@@ -81,7 +82,8 @@ fn sums_and_differences_wrap(rt: HostRuntime) -> Result<(), Fail> {
 /// Adds to reference 0, and prints what is read back.
 fn adds(alloc: Global, number: u64) -> Result<Script, Memory>
     ensures straight { IfOk result (λ script. IsStraightScript script) }
-    ensures fits { IfOk result (λ script. (refs : ℕ) → 0 < refs → ScriptFits (record { refs = refs; maps = 0; snaps = 0 }) script) }
+    ensures fits { IfOk result (λ script. (refs : ℕ) → 0 < refs →
+        ScriptFits (record { refs = refs; maps = 0; snaps = 0 }) script) }
 {
     let mut block = Block::new(alloc);
     block.push(Statement::Read { reg: 0, cell: 0 })?;
@@ -98,7 +100,8 @@ fn adds(alloc: Global, number: u64) -> Result<Script, Memory>
 /// Prints what reference 0 is.
 fn reads(alloc: Global) -> Result<Script, Memory>
     ensures straight { IfOk result (λ script. IsStraightScript script) }
-    ensures fits { IfOk result (λ script. (refs : ℕ) → 0 < refs → ScriptFits (record { refs = refs; maps = 0; snaps = 0 }) script) }
+    ensures fits { IfOk result (λ script. (refs : ℕ) → 0 < refs →
+        ScriptFits (record { refs = refs; maps = 0; snaps = 0 }) script) }
 {
     let mut block = Block::new(alloc);
     block.push(Statement::Read { reg: 0, cell: 0 })?;

@@ -1,4 +1,4 @@
-//! Runs the scripts of a job, one worker after another, and lists them in the order in which they ran.
+//! Runs the scripts of a job, one worker after another, and lists them in this order.
 ghost use Rattle.std.specs.Prelude.{◌≡◌, ◌+◌, ◌^◌, ◌<◌, ◌≤◌, length, IfOk};
 ghost use Rattle.ledger_model.specs.Fits.{JobFits, ScriptFits, places};
 ghost use Rattle.ledger_model.specs.Replays.{Replays, scripts_of};
@@ -12,8 +12,8 @@ use ledger_model::{Contents, Job, Listing, Names, RolledList, Row, RowResult, Ro
 use std::alloc::Global;
 use stm_model::{Memory, Runs, Settings};
 
-/// Runs a straight job: worker 1's scripts, then worker 2's, and so on. The clock suffices for all of
-/// them, so each script that writes commits.
+/// Runs a straight job: worker 1's scripts, then worker 2's, and so on. The clock suffices for all
+/// of them, so each script that writes commits.
 pub fn run_in_turn(alloc: Global, job: &Job, settings: &Settings) -> Result<Listing, Memory>
     requires fits { JobFits job.now }
     requires straight { IsStraight job.now }
@@ -63,7 +63,8 @@ fn run_worker(
     requires places { places_in progress.contents ≡ places job.now }
     ensures listed { IfOk result (λ next. Listed job.now settings.now (worker + 1) 0 next) }
     ensures places { IfOk result (λ next. places_in next.contents ≡ places job.now) }
-    ensures writers { IfOk result (λ next. next.writers ≤ progress.writers + length (scripts_of job.now worker)) }
+    ensures writers { IfOk result (λ next.
+        next.writers ≤ progress.writers + length (scripts_of job.now worker)) }
 {
     let scripts = job.workers.at(usize::from(worker) - 1);
     let mut progress = progress;
@@ -87,8 +88,10 @@ fn run_next(
     requires straight { IsStraightScript script.now }
     requires fits { ScriptFits (places_in progress.contents) script.now }
     requires room { progress.writers + 1 < 2 ^ 64 }
-    ensures next { IfOk result (λ next. next ≡ with_run worker number script.now.block progress) }
-    ensures places { IfOk result (λ next. places_in next.contents ≡ places_in progress.contents) }
+    ensures next { IfOk result (λ next.
+        next ≡ with_run worker number script.now.block progress) }
+    ensures places { IfOk result (λ next.
+        places_in next.contents ≡ places_in progress.contents) }
 {
     let Progress {
         mut rows,
