@@ -13,8 +13,8 @@ use Rattle.ledger_model.specs.declared.script.Script.{Script}
 use Rattle.ledger_model.specs.declared.script.Statement.{Statement}
 use Rattle.ledger_model.specs.Fits.{Places, fits, block_fits, ScriptFits, WorkerFits, OpeningsFit, JobFits, places}
 use Rattle.ledger_model.specs.Straight.{is_straight, IsStraightScript, IsStraight}
-use Rattle.script_text.specs.declared.job_text.ParseFault.{ParseFault}
-use Rattle.script_text.specs.declared.job_text.ParseFault.TheVariants as fault
+use Rattle.script_text.specs.declared.fault.ParseFault.{ParseFault}
+use Rattle.script_text.specs.declared.fault.ParseFault.TheVariants as fault
 use Rattle.script_text.specs.declared.reader.Reader.TheVariants as now
 use Rattle.script_text.specs.Reading.{read_on, read_lines, job_of, job_with, Reads}
 use Rattle.script_text.specs.Printing.{head_line, refs_line, opening_line, worker_lines}

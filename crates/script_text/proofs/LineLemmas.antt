@@ -163,22 +163,22 @@ first_kept false b c h = cc
 
 statement_says : (refs : ℕ) (k : Keyword) (args : Row) (m : Statement) → statement_of refs k args ≡ Some m → Says refs (keyword_word k ∷ args) (says.Plain m)
 statement_says refs key.Const args m h =
-    let t = two_says register_way number_way (λ r n. made.Const r n) args m h in
+    let t = two_says register_way number_way made.Const args m h in
     spoken refs (stmt.const t.x t.y) key.Const args m t.is (ap (λ (more : Row). codes "const" ∷ more) t.plain) t.fits t.words
 statement_says refs key.Read args m h =
-    let t = two_says register_way (below_way refs) (λ r cell. made.Read r cell) args m h in
+    let t = two_says register_way (below_way refs) made.Read args m h in
     spoken refs (stmt.read t.x t.y) key.Read args m t.is (ap (λ (more : Row). codes "read" ∷ more) t.plain) (middle (is_register t.x) (nat_lt t.y refs) (nat_lt t.y (2 ^ 64)) t.fits) t.words
 statement_says refs key.Write args m h =
-    let t = two_says (below_way refs) operand_way (λ cell x. made.Write cell x) args m h in
+    let t = two_says (below_way refs) operand_way made.Write args m h in
     spoken refs (stmt.write t.x t.y) key.Write args m t.is (ap (λ (more : Row). codes "write" ∷ more) t.plain) (first_kept (nat_lt t.x refs) (nat_lt t.x (2 ^ 64)) (operand_fits t.y) t.fits) t.words
 statement_says refs key.Add args m h =
-    let t = two_says register_way operand_way (λ r x. made.Add r x) args m h in
+    let t = two_says register_way operand_way made.Add args m h in
     spoken refs (stmt.add t.x t.y) key.Add args m t.is (ap (λ (more : Row). codes "add" ∷ more) t.plain) t.fits t.words
 statement_says refs key.Sub args m h =
-    let t = two_says register_way operand_way (λ r x. made.Sub r x) args m h in
+    let t = two_says register_way operand_way made.Sub args m h in
     spoken refs (stmt.sub t.x t.y) key.Sub args m t.is (ap (λ (more : Row). codes "sub" ∷ more) t.plain) t.fits t.words
 statement_says refs key.Print args m h =
-    let t = one_says operand_way (λ x. made.Print x) args m h in
+    let t = one_says operand_way made.Print args m h in
     spoken refs (stmt.print t.x) key.Print args m t.is (ap (λ (more : Row). codes "print" ∷ more) t.plain) t.fits t.words
 statement_says refs _ args m h = cc
 
@@ -194,7 +194,10 @@ alone refs k l e f [] line h =
       words = (keyword_visible k, tt);
     })
 
-stated : (refs : ℕ) (k : Keyword) (args : Row) (line : Line) → (statement_of refs k args >>= λ m. Some (says.Plain m)) ≡ Some line → Says refs (keyword_word k ∷ args) line
+abbrev plainly : Option Statement → Option Line
+plainly o = o >>= λ m. Some (says.Plain m)
+
+stated : (refs : ℕ) (k : Keyword) (args : Row) (line : Line) → plainly (statement_of refs k args) ≡ Some line → Says refs (keyword_word k ∷ args) line
 stated refs k args line h =
     let b = bind_some (statement_of refs k args) (λ m. Some (says.Plain m)) line h in
     subst (Says refs (keyword_word k ∷ args)) (some_same (says.Plain b.0) line b.2) (statement_says refs k args b.0 b.1)
@@ -202,21 +205,21 @@ stated refs k args line h =
 refs_within : (n : ℕ) → (nat_lt n 65537 && nat_lt n (2 ^ 64)) ≡ true → n ≤ 65536
 refs_within n h = let l = true_lt n 65537 (both (nat_lt n 65537) (nat_lt n (2 ^ 64)) h).0 in omega arith
 
-opening_within : (refs cell n : ℕ) → ((nat_lt cell refs && nat_lt cell (2 ^ 64)) && nat_lt n (2 ^ 64)) ≡ true → (cell < refs) × (n < 2 ^ 64)
+opening_within : (refs cell n : ℕ) → (((below_way refs).fits cell) && nat_lt n (2 ^ 64)) ≡ true → (cell < refs) × (n < 2 ^ 64)
 opening_within refs cell n h =
-    let e = both (nat_lt cell refs && nat_lt cell (2 ^ 64)) (nat_lt n (2 ^ 64)) h in
+    let e = both ((below_way refs).fits cell) (nat_lt n (2 ^ 64)) h in
     (true_lt cell refs (both (nat_lt cell refs) (nat_lt cell (2 ^ 64)) e.0).0, true_lt n (2 ^ 64) e.1)
 
 said_says : (refs : ℕ) (k : Keyword) (args : Row) (line : Line) → said refs k args ≡ Some line → Says refs (keyword_word k ∷ args) line
 said_says refs key.Refs args line h =
-    let t = one_says (below_way 65537) (λ n. says.Refs n) args line h in
+    let t = one_says (below_way 65537) says.Refs args line h in
     subst (Says refs (codes "refs" ∷ args)) t.is (record {
       plain = ap (λ (more : Row). (codes "refs" ∷ more) ∷ []) t.plain;
       fits = refs_within t.x t.fits;
       words = (refl, t.words);
     })
 said_says refs key.Ref args line h =
-    let t = two_says (below_way refs) number_way (λ cell n. says.Opening cell n) args line h in
+    let t = two_says (below_way refs) number_way says.Opening args line h in
     subst (Says refs (codes "ref" ∷ args)) t.is (record {
       plain = ap (λ (more : Row). (codes "ref" ∷ more) ∷ []) t.plain;
       fits = opening_within refs t.x t.y t.fits;
@@ -246,26 +249,26 @@ no_same [] = refl
 no_same (a ∷ more) = refl
 
 statement_same : (refs : ℕ) (k : Keyword) (args : Row) → statement_of refs k (map plain_word args) ≡ statement_of refs k args
-statement_same refs key.Const args = two_same register_way number_way (λ r n. made.Const r n) args
-statement_same refs key.Read args = two_same register_way (below_way refs) (λ r cell. made.Read r cell) args
-statement_same refs key.Write args = two_same (below_way refs) operand_way (λ cell x. made.Write cell x) args
-statement_same refs key.Add args = two_same register_way operand_way (λ r x. made.Add r x) args
-statement_same refs key.Sub args = two_same register_way operand_way (λ r x. made.Sub r x) args
-statement_same refs key.Print args = one_same operand_way (λ x. made.Print x) args
+statement_same refs key.Const args = two_same register_way number_way made.Const args
+statement_same refs key.Read args = two_same register_way (below_way refs) made.Read args
+statement_same refs key.Write args = two_same (below_way refs) operand_way made.Write args
+statement_same refs key.Add args = two_same register_way operand_way made.Add args
+statement_same refs key.Sub args = two_same register_way operand_way made.Sub args
+statement_same refs key.Print args = one_same operand_way made.Print args
 statement_same refs _ args = refl
 
 said_same : (refs : ℕ) (k : Keyword) (args : Row) → said refs k (map plain_word args) ≡ said refs k args
-said_same refs key.Refs args = one_same (below_way 65537) (λ n. says.Refs n) args
-said_same refs key.Ref args = two_same (below_way refs) number_way (λ cell n. says.Opening cell n) args
+said_same refs key.Refs args = one_same (below_way 65537) says.Refs args
+said_same refs key.Ref args = two_same (below_way refs) number_way says.Opening args
 said_same refs key.Worker args = ap (λ (o : Option (Unit {0})). o >>= λ _. Some says.Worker) (no_same args)
 said_same refs key.Script args = ap (λ (o : Option (Unit {0})). o >>= λ _. Some says.Script) (no_same args)
 said_same refs key.End args = ap (λ (o : Option (Unit {0})). o >>= λ _. Some says.End) (no_same args)
-said_same refs key.Const args = ap (λ (o : Option Statement). o >>= λ m. Some (says.Plain m)) (statement_same refs key.Const args)
-said_same refs key.Read args = ap (λ (o : Option Statement). o >>= λ m. Some (says.Plain m)) (statement_same refs key.Read args)
-said_same refs key.Write args = ap (λ (o : Option Statement). o >>= λ m. Some (says.Plain m)) (statement_same refs key.Write args)
-said_same refs key.Add args = ap (λ (o : Option Statement). o >>= λ m. Some (says.Plain m)) (statement_same refs key.Add args)
-said_same refs key.Sub args = ap (λ (o : Option Statement). o >>= λ m. Some (says.Plain m)) (statement_same refs key.Sub args)
-said_same refs key.Print args = ap (λ (o : Option Statement). o >>= λ m. Some (says.Plain m)) (statement_same refs key.Print args)
+said_same refs key.Const args = ap plainly (statement_same refs key.Const args)
+said_same refs key.Read args = ap plainly (statement_same refs key.Read args)
+said_same refs key.Write args = ap plainly (statement_same refs key.Write args)
+said_same refs key.Add args = ap plainly (statement_same refs key.Add args)
+said_same refs key.Sub args = ap plainly (statement_same refs key.Sub args)
+said_same refs key.Print args = ap plainly (statement_same refs key.Print args)
 
 pub line_same : (refs : ℕ) (row : Row) → line_of refs (map plain_word row) ≡ line_of refs row
 line_same refs [] = refl
@@ -277,20 +280,22 @@ line_same refs (word ∷ args) =
 
 -- ---- the canonical row of a line says this line
 
-small : (refs n : ℕ) → refs ≤ 65536 → nat_lt n refs ≡ true → nat_lt n (2 ^ 64) ≡ true
-small refs n l h = let m = true_lt n refs h in lt_true n (2 ^ 64) (omega arith)
+small : (refs cell : ℕ) → refs ≤ 65536 → nat_lt cell refs ≡ true → (below_way refs).fits cell ≡ true
+small refs cell l h =
+    let m = true_lt cell refs h in
+    and_true (nat_lt cell refs) (nat_lt cell (2 ^ 64)) h (lt_true cell (2 ^ 64) (omega arith))
 
 plain_again : (refs : ℕ) → refs ≤ 65536 → (s : stmt.Plain) → plain_fits refs s ≡ true → line_of refs (row_of s) ≡ Some (says.Plain (stmt.made_of s))
-plain_again refs l (stmt.const r n) f = ap (λ (o : Option Statement). o >>= λ m. Some (says.Plain m)) (two_again register_way number_way (λ r n. made.Const r n) r n f)
+plain_again refs l (stmt.const r n) f = ap plainly (two_again register_way number_way made.Const r n f)
 plain_again refs l (stmt.read r cell) f =
     let e = both (is_register r) (nat_lt cell refs) f in
-    ap (λ (o : Option Statement). o >>= λ m. Some (says.Plain m)) (two_again register_way (below_way refs) (λ r cell. made.Read r cell) r cell (and_true (is_register r) (nat_lt cell refs && nat_lt cell (2 ^ 64)) e.0 (and_true (nat_lt cell refs) (nat_lt cell (2 ^ 64)) e.1 (small refs cell l e.1))))
+    ap plainly (two_again register_way (below_way refs) made.Read r cell (and_true (is_register r) ((below_way refs).fits cell) e.0 (small refs cell l e.1)))
 plain_again refs l (stmt.write cell x) f =
     let e = both (nat_lt cell refs) (operand_fits x) f in
-    ap (λ (o : Option Statement). o >>= λ m. Some (says.Plain m)) (two_again (below_way refs) operand_way (λ cell x. made.Write cell x) cell x (and_true (nat_lt cell refs && nat_lt cell (2 ^ 64)) (operand_fits x) (and_true (nat_lt cell refs) (nat_lt cell (2 ^ 64)) e.0 (small refs cell l e.0)) e.1))
-plain_again refs l (stmt.add r x) f = ap (λ (o : Option Statement). o >>= λ m. Some (says.Plain m)) (two_again register_way operand_way (λ r x. made.Add r x) r x f)
-plain_again refs l (stmt.sub r x) f = ap (λ (o : Option Statement). o >>= λ m. Some (says.Plain m)) (two_again register_way operand_way (λ r x. made.Sub r x) r x f)
-plain_again refs l (stmt.print x) f = ap (λ (o : Option Statement). o >>= λ m. Some (says.Plain m)) (one_again operand_way (λ x. made.Print x) x f)
+    ap plainly (two_again (below_way refs) operand_way made.Write cell x (and_true ((below_way refs).fits cell) (operand_fits x) (small refs cell l e.0) e.1))
+plain_again refs l (stmt.add r x) f = ap plainly (two_again register_way operand_way made.Add r x f)
+plain_again refs l (stmt.sub r x) f = ap plainly (two_again register_way operand_way made.Sub r x f)
+plain_again refs l (stmt.print x) f = ap plainly (one_again operand_way made.Print x f)
 
 -- The one row of a line within the limits. It says this line.
 pub record Spelled (refs : ℕ) (line : Line) : Type 0 where
@@ -302,13 +307,13 @@ pub line_again : (refs : ℕ) → refs ≤ 65536 → (line : Line) → LineFits 
 line_again refs l (says.Refs n) f = record {
   row = refs_line n;
   rows = refl;
-  says = one_again (below_way 65537) (λ n. says.Refs n) n (and_true (nat_lt n 65537) (nat_lt n (2 ^ 64)) (lt_true n 65537 (omega arith)) (lt_true n (2 ^ 64) (omega arith)));
+  says = one_again (below_way 65537) says.Refs n (and_true (nat_lt n 65537) (nat_lt n (2 ^ 64)) (lt_true n 65537 (omega arith)) (lt_true n (2 ^ 64) (omega arith)));
 }
 line_again refs l (says.Opening cell n) f =
     let e = lt_true cell refs f.0 in record {
       row = opening_line (cell, n);
       rows = refl;
-      says = two_again (below_way refs) number_way (λ cell n. says.Opening cell n) cell n (and_true (nat_lt cell refs && nat_lt cell (2 ^ 64)) (nat_lt n (2 ^ 64)) (and_true (nat_lt cell refs) (nat_lt cell (2 ^ 64)) e (small refs cell l e)) (lt_true n (2 ^ 64) f.1));
+      says = two_again (below_way refs) number_way says.Opening cell n (and_true ((below_way refs).fits cell) (nat_lt n (2 ^ 64)) (small refs cell l e) (lt_true n (2 ^ 64) f.1));
     }
 line_again refs l says.Worker f = record { row = codes "worker" ∷ []; rows = refl; says = refl }
 line_again refs l says.Script f = record { row = codes "script" ∷ []; rows = refl; says = refl }

@@ -1,4 +1,4 @@
--- Which job the lines of a text say: one step for each line.
+-- Which job the lines of a text say, one step for each line. The code is proved to read so, and `Form` says what that comes to.
 use Rattle.std.specs.Prelude.{◌≡◌, ℕ, ◌+◌, nat_eq, nat_lt, nat_le, if◌then◌else◌, List, [], ◌∷◌, ◌++◌, length, map, codes, bytes_eq, Option, Some, None, Result, Ok, Err}
 use Rattle.text_lines.specs.Lines.{Row, lines, fields, ends_every_line}
 use Rattle.text_lines.specs.Numbers.{number_of}
@@ -14,8 +14,8 @@ use Rattle.script_text.specs.declared.line.Line.TheVariants as says
 use Rattle.script_text.specs.declared.reader.Opened.{Opened}
 use Rattle.script_text.specs.declared.reader.Reader.{Reader}
 use Rattle.script_text.specs.declared.reader.Reader.TheVariants as now
-use Rattle.script_text.specs.declared.job_text.ParseFault.{ParseFault}
-use Rattle.script_text.specs.declared.job_text.ParseFault.TheVariants as fault
+use Rattle.script_text.specs.declared.fault.ParseFault.{ParseFault}
+use Rattle.script_text.specs.declared.fault.ParseFault.TheVariants as fault
 use Rattle.script_text.specs.Words.{◌>>=◌, keyword_of, below, register_of, operand_of, no_field, one_field, two_fields}
 
 -- ---- what a line says
@@ -30,18 +30,18 @@ two read also make args = two_fields args >>= λ w. read w.0 >>= λ x. also w.1 
 
 -- the statement of a keyword and the fields behind it, which names references below `refs` alone
 abbrev pub statement_of : ℕ → Keyword → Row → Option Statement
-statement_of refs key.Const args = two register_of number_of (λ r n. made.Const r n) args
-statement_of refs key.Read args = two register_of (below refs) (λ r cell. made.Read r cell) args
-statement_of refs key.Write args = two (below refs) operand_of (λ cell x. made.Write cell x) args
-statement_of refs key.Add args = two register_of operand_of (λ r x. made.Add r x) args
-statement_of refs key.Sub args = two register_of operand_of (λ r x. made.Sub r x) args
-statement_of refs key.Print args = one operand_of (λ x. made.Print x) args
+statement_of refs key.Const args = two register_of number_of made.Const args
+statement_of refs key.Read args = two register_of (below refs) made.Read args
+statement_of refs key.Write args = two (below refs) operand_of made.Write args
+statement_of refs key.Add args = two register_of operand_of made.Add args
+statement_of refs key.Sub args = two register_of operand_of made.Sub args
+statement_of refs key.Print args = one operand_of made.Print args
 statement_of refs _ args = None
 
 -- what a keyword and the fields behind it say
 abbrev pub said : ℕ → Keyword → Row → Option Line
-said refs key.Refs args = one (below 65537) (λ n. says.Refs n) args
-said refs key.Ref args = two (below refs) number_of (λ cell n. says.Opening cell n) args
+said refs key.Refs args = one (below 65537) says.Refs args
+said refs key.Ref args = two (below refs) number_of says.Opening args
 said refs key.Worker args = no_field args >>= λ _. Some says.Worker
 said refs key.Script args = no_field args >>= λ _. Some says.Script
 said refs key.End args = no_field args >>= λ _. Some says.End

@@ -1,5 +1,5 @@
 -- What single words of a line say.
-use Rattle.std.specs.Prelude.{ℕ, Bool, not, ◌&&◌, nat_eq, nat_lt, if◌then◌else◌, List, [], ◌∷◌, length, slice_index, codes, bytes_eq, Option, Some, None}
+use Rattle.std.specs.Prelude.{ℕ, Bool, not, ◌&&◌, nat_eq, nat_lt, if◌then◌else◌, List, [], ◌∷◌, length, slice_index, codes, bytes_eq, Option, Some, None, option_and_then}
 use Rattle.text_lines.specs.Lines.{Row, fields}
 use Rattle.text_lines.specs.Numbers.{number_of}
 use Rattle.ledger_model.specs.Fits.{is_register}
@@ -11,8 +11,7 @@ use Rattle.script_text.specs.declared.words.Keyword.TheVariants as key
 infixl 10 ◌>>=◌
 -- what comes of the value, if there is one
 abbrev pub ◌>>=◌ : {A B : Type 0} → Option A → (A → Option B) → Option B
-None >>= f = None
-(Some x) >>= f = f x
+o >>= f = option_and_then f o
 
 abbrev pub keyword_word : Keyword → List ℕ
 keyword_word key.Refs = codes "refs"

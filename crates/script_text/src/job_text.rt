@@ -4,43 +4,21 @@ ghost use Rattle.std.specs.Prelude.{◌≡◌, ◌⊎◌, IfOk, IfErr};
 ghost use Rattle.script_text.specs.Form.{IsTextOf, HasNoJob};
 ghost use Rattle.script_text.specs.Reading.{job_of, Reads};
 
+use crate::fault::{ParseFault, UNBUILT};
 use crate::reader::Reader;
 use ledger_model::{Job, Reason};
 use std::alloc::Global;
-use stm_model::Memory;
 use text_lines::{cut_line, ends_every_line};
-
-/// Why a text is not taken.
-#[derive(Clone, Copy, Debug, PartialEq, Eq)]
-pub enum ParseFault {
-    /// The line is refused, and no earlier one. Line 0 stands for the text as a whole.
-    Script { line: u64, reason: Reason },
-    /// Want of memory.
-    Memory,
-}
-
-impl From<Memory> for ParseFault {
-    ghost use Rattle.script_text.specs.declared.job_text.ParseFault.TheVariants as fault;
-
-    ghost from_gives = { λ _ e. e ≡ fault.Memory };
-
-    fn from(_memory: Memory) -> ParseFault {
-        ParseFault::Memory
-    }
-}
-
-/// The text is not of the form that is built.
-pub const UNBUILT: ParseFault = ParseFault::Script {
-    line: 0,
-    reason: Reason::Unbuilt,
-};
 
 /// The job of a text of the form that is built: the head `stm 1`, references, and workers whose
 /// scripts go straight on.
 pub fn parse(alloc: Global, text: &[u8]) -> Result<Job, ParseFault>
     ensures job { IfOk result (IsTextOf text.now) }
     ensures refused { result ≡ Err (ParseFault.Script 0 Reason.Unbuilt) → HasNoJob text.now }
-    ensures faults { IfErr result (λ fault. (fault ≡ ParseFault.Script 0 Reason.Unbuilt) ⊎ (fault ≡ ParseFault.Memory)) }
+    ensures faults {
+        IfErr result (λ fault.
+            (fault ≡ ParseFault.Script 0 Reason.Unbuilt) ⊎ (fault ≡ ParseFault.Memory))
+    }
 {
     job_of(alloc, text)
 }

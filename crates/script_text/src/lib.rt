@@ -1,13 +1,15 @@
 //! The text of a job: reading it, and what its form means.
 #![tactic(auto)]
 
+mod fault;
 mod job_text;
 pub mod laws;
 mod line;
 mod reader;
 mod words;
 
-pub use job_text::{ParseFault, parse};
+pub use fault::ParseFault;
+pub use job_text::parse;
 
 #[cfg(test)]
 mod tests;

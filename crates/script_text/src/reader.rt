@@ -5,7 +5,7 @@ ghost use Rattle.text_lines.specs.Lines.{fields};
 ghost use Rattle.script_text.specs.declared.line.Line.TheVariants as says;
 ghost use Rattle.script_text.specs.Reading.{opened, with_opening, refs_of, taken, step, job_with, finished, Reads};
 
-use crate::job_text::{ParseFault, UNBUILT};
+use crate::fault::{ParseFault, UNBUILT};
 use crate::line::{Line, line_of};
 use ledger_model::{Block, Job, Openings, Script, Scripts, Statement, Steps, Workers};
 use std::alloc::Global;
