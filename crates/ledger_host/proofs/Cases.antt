@@ -7,8 +7,8 @@ use Rattle.ledger_model.specs.declared.job.Job.{Job}
 use Rattle.ledger_model.specs.declared.reason.Reason.{Reason}
 use Rattle.ledger_model.specs.declared.reason.Reason.TheVariants.{Long, Unbuilt}
 use Rattle.script_text.specs.Form.{HasNoJob, IsTextOf}
-use Rattle.script_text.specs.declared.job_text.ParseFault.{ParseFault}
-use Rattle.script_text.specs.declared.job_text.ParseFault.TheVariants as parsing
+use Rattle.script_text.specs.declared.fault.ParseFault.{ParseFault}
+use Rattle.script_text.specs.declared.fault.ParseFault.TheVariants as parsing
 use Rattle.ledger_host.specs.Refusals.{IsRefusalOf, refusal_of}
 use Rattle.ledger_host.specs.Words.{AsksTrace}
 use Rattle.ledger_host.specs.Answers.{Answers, HasReport, IsNoJob, IsRefused, IsRefusedText, TookTooMany, TellsJob, TellsNoJob}

@@ -1,8 +1,8 @@
 -- Why there is no report.
 use Rattle.std.specs.Prelude.{ℕ, List, Option}
 use Rattle.stm_io.specs.Faults.{Rose}
-use Rattle.script_text.specs.declared.job_text.ParseFault.{ParseFault}
-use Rattle.script_text.specs.declared.job_text.ParseFault.TheVariants as parsing
+use Rattle.script_text.specs.declared.fault.ParseFault.{ParseFault}
+use Rattle.script_text.specs.declared.fault.ParseFault.TheVariants as parsing
 use Rattle.ledger_host.specs.Answers.{IsNoJob, IsRefused}
 use Rattle.ledger_host.specs.declared.host.Refusal.{Refusal}
 use Rattle.ledger_host.specs.declared.host.Refusal.TheVariants.{Script, ReadFault, Memory}

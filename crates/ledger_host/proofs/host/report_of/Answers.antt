@@ -1,6 +1,6 @@
 use Rattle.std.proofs.Common.{Result, Err, arith, ap}
 use Rattle.ledger_model.specs.declared.job.Job.{Job}
-use Rattle.script_text.specs.declared.job_text.ParseFault.{ParseFault}
+use Rattle.script_text.specs.declared.fault.ParseFault.{ParseFault}
 use Rattle.ledger_host.proofs.Cases.{refusal_of-explained}
 use Rattle.ledger_host.proofs.Counting.{sum_by-scripts-le}
 use Rattle.ledger_host.proofs.host.report_of.Goals as goal
