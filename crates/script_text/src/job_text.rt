@@ -15,10 +15,8 @@ use text_lines::{cut_line, ends_every_line};
 pub fn parse(alloc: Global, text: &[u8]) -> Result<Job, ParseFault>
     ensures job { IfOk result (IsTextOf text.now) }
     ensures refused { result ≡ Err (ParseFault.Script 0 Reason.Unbuilt) → HasNoJob text.now }
-    ensures faults {
-        IfErr result (λ fault.
-            (fault ≡ ParseFault.Script 0 Reason.Unbuilt) ⊎ (fault ≡ ParseFault.Memory))
-    }
+    ensures faults { IfErr result (λ fault.
+        (fault ≡ ParseFault.Script 0 Reason.Unbuilt) ⊎ (fault ≡ ParseFault.Memory)) }
 {
     job_of(alloc, text)
 }
