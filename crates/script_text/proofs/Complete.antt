@@ -52,14 +52,16 @@ abbrev pub GoodWorkers : ℕ → List (List Script) → Type 0
 GoodWorkers refs workers = AllByRecursion (λ scripts. (length scripts ≤ 4096) × GoodScripts refs scripts) workers
 
 -- the canonical line of what a reader takes leads on to what comes of it
-line_read : (reader next : Reader) (line : Line) (rows : List Row) → refs_of reader ≤ 65536 → LineFits (refs_of reader) line → taken reader line ≡ Some next → read_on reader (line_rows line ++ rows) ≡ read_on next rows
+line_read : (reader next : Reader) (line : Line) (rows : List Row) → refs_of reader ≤ 65536 → LineFits (refs_of reader) line
+    → taken reader line ≡ Some next → read_on reader (line_rows line ++ rows) ≡ read_on next rows
 line_read reader next line rows l f t =
     let s = line_again (refs_of reader) l line f in
     ap (λ (lines : List Row). read_on reader (lines ++ rows)) s.rows
     ∙ ap (λ (o : Option Line). o >>= (λ line. taken reader line) >>= λ next. read_on next rows) s.says
     ∙ ap (λ (o : Option Reader). o >>= λ next. read_on next rows) t
 
-block_read : (block : List Statement) (o : Opened) (workers : List (List Script)) (scripts : List Script) (before : List Statement) (rows : List Row) → o.refs ≤ 65536 → GoodBlock o.refs block
+block_read : (block : List Statement) (o : Opened) (workers : List (List Script)) (scripts : List Script) (before : List Statement) (rows : List Row)
+    → o.refs ≤ 65536 → GoodBlock o.refs block
     → read_on (now.Script o workers scripts before) (block_lines block ++ rows) ≡ read_on (now.Script o workers scripts (before ++ block)) rows
 block_read [] o workers scripts before rows l g = ap (λ (b : List Statement). read_on (now.Script o workers scripts b) rows) (sym (append-nil before))
 block_read (m ∷ block) o workers scripts before rows l g =
@@ -69,7 +71,8 @@ block_read (m ∷ block) o workers scripts before rows l g =
     ∙ block_read block o workers scripts (before ++ m ∷ []) rows l g.1
     ∙ ap (λ (b : List Statement). read_on (now.Script o workers scripts b) rows) (append_assoc before (m ∷ []) block)
 
-script_read : (script : Script) (o : Opened) (workers : List (List Script)) (scripts : List Script) (rows : List Row) → o.refs ≤ 65536 → length scripts < 4096 → GoodBlock o.refs script.block
+script_read : (script : Script) (o : Opened) (workers : List (List Script)) (scripts : List Script) (rows : List Row) → o.refs ≤ 65536
+    → length scripts < 4096 → GoodBlock o.refs script.block
     → read_on (now.Worker o workers scripts) (script_lines script ++ rows) ≡ read_on (now.Worker o workers (scripts ++ script ∷ [])) rows
 script_read script o workers scripts rows l n g =
     let begun : Reader = now.Script o workers scripts [] in
@@ -81,7 +84,8 @@ script_read script o workers scripts rows l n g =
     ∙ block_read script.block o workers scripts [] (end_line ∷ rows) l g
     ∙ line_read full next says.End rows l tt refl
 
-scripts_read : (more : List Script) (o : Opened) (workers : List (List Script)) (scripts : List Script) (rows : List Row) → o.refs ≤ 65536 → length scripts + length more ≤ 4096 → GoodScripts o.refs more
+scripts_read : (more : List Script) (o : Opened) (workers : List (List Script)) (scripts : List Script) (rows : List Row) → o.refs ≤ 65536
+    → length scripts + length more ≤ 4096 → GoodScripts o.refs more
     → read_on (now.Worker o workers scripts) (flat_map script_lines more ++ rows) ≡ read_on (now.Worker o workers (scripts ++ more)) rows
 scripts_read [] o workers scripts rows l n g = ap (λ (s : List Script). read_on (now.Worker o workers s) rows) (sym (append-nil scripts))
 scripts_read (script ∷ more) o workers scripts rows l n g =
@@ -91,13 +95,15 @@ scripts_read (script ∷ more) o workers scripts rows l n g =
     ∙ ap (λ (s : List Script). read_on (now.Worker o workers s) rows) (append_assoc scripts (script ∷ []) more)
 
 -- the lines of one worker, behind what may stand before a worker
-worker_read : (reader : Reader) (o : Opened) (workers : List (List Script)) (scripts : List Script) (rows : List Row) → refs_of reader ≤ 65536 → o.refs ≤ 65536 → taken reader says.Worker ≡ Some (now.Worker o workers [])
+worker_read : (reader : Reader) (o : Opened) (workers : List (List Script)) (scripts : List Script) (rows : List Row) → refs_of reader ≤ 65536
+    → o.refs ≤ 65536 → taken reader says.Worker ≡ Some (now.Worker o workers [])
     → (length scripts ≤ 4096) × GoodScripts o.refs scripts → read_on reader (worker_lines scripts ++ rows) ≡ read_on (now.Worker o workers scripts) rows
 worker_read reader o workers scripts rows k l t g =
     line_read reader (now.Worker o workers []) says.Worker (flat_map script_lines scripts ++ rows) k tt t
     ∙ scripts_read scripts o workers [] rows l (omega (arith, g.0)) g.1
 
-workers_read : (later : List (List Script)) (o : Opened) (workers : List (List Script)) (scripts : List Script) → o.refs ≤ 65536 → length workers + length later < 16 → GoodWorkers o.refs later
+workers_read : (later : List (List Script)) (o : Opened) (workers : List (List Script)) (scripts : List Script) → o.refs ≤ 65536
+    → length workers + length later < 16 → GoodWorkers o.refs later
     → read_on (now.Worker o workers scripts) (flat_map worker_lines later) ≡ Some (job_with o.refs o.openings (workers ++ scripts ∷ later))
 workers_read [] o workers scripts l n g = refl
 workers_read (next ∷ later) o workers scripts l n g =
@@ -108,7 +114,8 @@ workers_read (next ∷ later) o workers scripts l n g =
     ∙ ap (λ (all : List (List Script)). Some (job_with o.refs o.openings all)) (append_assoc workers (scripts ∷ []) (next ∷ later))
 
 -- all workers, behind the head or the references
-all_read : (workers : List (List Script)) (reader : Reader) (o : Opened) → refs_of reader ≤ 65536 → o.refs ≤ 65536 → taken reader says.Worker ≡ Some (now.Worker o [] []) → finished reader ≡ Some (job_with o.refs o.openings [])
+all_read : (workers : List (List Script)) (reader : Reader) (o : Opened) → refs_of reader ≤ 65536 → o.refs ≤ 65536
+    → taken reader says.Worker ≡ Some (now.Worker o [] []) → finished reader ≡ Some (job_with o.refs o.openings [])
     → length workers ≤ 16 → GoodWorkers o.refs workers → read_on reader (flat_map worker_lines workers) ≡ Some (job_with o.refs o.openings workers)
 all_read [] reader o k l t f n g = f
 all_read (scripts ∷ later) reader o k l t f n g =
@@ -122,7 +129,8 @@ abbrev behind : Opened → List (ℕ × ℕ) → Opened
 behind o [] = o
 behind o (opening ∷ openings) = behind (with_opening o opening.0 opening.1) openings
 
-pub set_first : (opening : ℕ × ℕ) (openings before : List (ℕ × ℕ)) → (if nat_eq opening.1 0 then before else before ++ opening ∷ []) ++ filter is_set openings ≡ before ++ filter is_set (opening ∷ openings)
+pub set_first : (opening : ℕ × ℕ) (openings before : List (ℕ × ℕ))
+    → (if nat_eq opening.1 0 then before else before ++ opening ∷ []) ++ filter is_set openings ≡ before ++ filter is_set (opening ∷ openings)
 set_first opening openings before = at (nat_eq opening.1 0) where
   at : (b : Bool) → cond b before (before ++ opening ∷ []) ++ filter is_set openings ≡ before ++ cond (not b) (opening ∷ filter is_set openings) (filter is_set openings)
   at true = refl
@@ -154,7 +162,8 @@ openings_read (opening ∷ openings) o rows l a =
 abbrev pub rows_of : Bool → ℕ → List (ℕ × ℕ) → List (List Script) → List Row
 rows_of header refs written workers = (if header then refs_line refs ∷ [] else []) ++ (map opening_line written ++ flat_map worker_lines workers)
 
-pub job_read : (header : Bool) (refs : ℕ) (written : List (ℕ × ℕ)) (workers : List (List Script)) → (header ≡ false → refs ≡ 0) → refs ≤ 65536 → OpeningsAscend refs 0 written → length workers ≤ 16 → GoodWorkers refs workers
+pub job_read : (header : Bool) (refs : ℕ) (written : List (ℕ × ℕ)) (workers : List (List Script)) → (header ≡ false → refs ≡ 0) → refs ≤ 65536
+    → OpeningsAscend refs 0 written → length workers ≤ 16 → GoodWorkers refs workers
     → read_on now.Head (rows_of header refs written workers) ≡ Some (job_with refs (filter is_set written) workers)
 job_read true refs written workers z l a n g =
     let o = behind (opened refs) written in

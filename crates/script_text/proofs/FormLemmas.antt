@@ -31,7 +31,8 @@ block_fits_good : (refs : ℕ) (block : List Statement) → GoodBlock refs block
 block_fits_good refs [] g = refl
 block_fits_good refs (m ∷ block) g = and_true (fits (only refs) m 32) (block_fits (only refs) 32 block) g.0.1 (block_fits_good refs block g.1)
 
-block_good : (refs : ℕ) (block : List Statement) → block_fits (only refs) 32 block ≡ true → AllByRecursion (λ m. IsTrue (is_straight m)) block → GoodBlock refs block
+block_good : (refs : ℕ) (block : List Statement) → block_fits (only refs) 32 block ≡ true → AllByRecursion (λ m. IsTrue (is_straight m)) block
+    → GoodBlock refs block
 block_good refs [] f s = tt
 block_good refs (m ∷ block) f s =
     let e = both (fits (only refs) m 32) (block_fits (only refs) 32 block) f in
@@ -49,7 +50,8 @@ scripts_straight : (refs : ℕ) (scripts : List Script) → GoodScripts refs scr
 scripts_straight refs [] g = tt
 scripts_straight refs (script ∷ more) g = (block_straight refs script.block g.0, scripts_straight refs more g.1)
 
-scripts_good : (refs : ℕ) (scripts : List Script) → AllByRecursion (ScriptFits (only refs)) scripts → AllByRecursion IsStraightScript scripts → GoodScripts refs scripts
+scripts_good : (refs : ℕ) (scripts : List Script) → AllByRecursion (ScriptFits (only refs)) scripts → AllByRecursion IsStraightScript scripts
+    → GoodScripts refs scripts
 scripts_good refs [] f s = tt
 scripts_good refs (script ∷ more) f s = (block_good refs script.block f.0 s.0, scripts_good refs more f.1 s.1)
 
@@ -57,11 +59,13 @@ workers_fit : (refs : ℕ) (workers : List (List Script)) → GoodWorkers refs w
 workers_fit refs [] g = tt
 workers_fit refs (scripts ∷ more) g = ((g.0.0, scripts_fit refs scripts g.0.1), workers_fit refs more g.1)
 
-workers_straight : (refs : ℕ) (workers : List (List Script)) → GoodWorkers refs workers → AllByRecursion (λ scripts. AllByRecursion IsStraightScript scripts) workers
+workers_straight : (refs : ℕ) (workers : List (List Script)) → GoodWorkers refs workers
+    → AllByRecursion (λ scripts. AllByRecursion IsStraightScript scripts) workers
 workers_straight refs [] g = tt
 workers_straight refs (scripts ∷ more) g = (scripts_straight refs scripts g.0.1, workers_straight refs more g.1)
 
-workers_good : (refs : ℕ) (workers : List (List Script)) → AllByRecursion (WorkerFits (only refs)) workers → AllByRecursion (λ scripts. AllByRecursion IsStraightScript scripts) workers → GoodWorkers refs workers
+workers_good : (refs : ℕ) (workers : List (List Script)) → AllByRecursion (WorkerFits (only refs)) workers
+    → AllByRecursion (λ scripts. AllByRecursion IsStraightScript scripts) workers → GoodWorkers refs workers
 workers_good refs [] f s = tt
 workers_good refs (scripts ∷ more) f s = ((f.0.0, scripts_good refs scripts f.0.1 s.0), workers_good refs more f.1 s.1)
 
@@ -105,7 +109,8 @@ good_workers job f s = workers_good job.refs job.workers (subst (λ (p : Places)
 
 -- ---- from what is read to the form
 
-fits_from : (rows : List Row) (refs : ℕ) (written : List (ℕ × ℕ)) (workers : List (List Script)) → refs ≤ 65536 → OpeningsAscend refs 0 written → length workers ≤ 16 → GoodWorkers refs workers → JobFits (job_with refs (filter is_set written) workers)
+fits_from : (rows : List Row) (refs : ℕ) (written : List (ℕ × ℕ)) (workers : List (List Script)) → refs ≤ 65536 → OpeningsAscend refs 0 written
+    → length workers ≤ 16 → GoodWorkers refs workers → JobFits (job_with refs (filter is_set written) workers)
 fits_from rows refs written workers l a n g = record {
   refs = l;
   maps = omega arith;
@@ -118,7 +123,8 @@ fits_from rows refs written workers l a n g = record {
   named = tt;
 }
 
-form_from : (text : List ℕ) (rows : List Row) (job : Job) → text ≡ text_of (head_line ∷ rows) → FromHead (map (map plain_word) rows) job → IsTextOf text job
+form_from : (text : List ℕ) (rows : List Row) (job : Job) → text ≡ text_of (head_line ∷ rows) → FromHead (map (map plain_word) rows) job
+    → IsTextOf text job
 form_from text rows job t r = subst (IsTextOf text) (sym r.job_is) (record {
   lines = rows;
   header = r.header;
@@ -132,7 +138,8 @@ form_from text rows job t r = subst (IsTextOf text) (sym r.job_is) (record {
   straight = record { maps = refl; snaps = refl; blocks = refl; steps = refl; scripts = workers_straight r.refs r.workers r.good };
 })
 
-form_of_rows : (text : List ℕ) (rows : List Row) (job : Job) → text ≡ text_of (head_line ∷ rows) → read_on now.Head rows ≡ Some job → IsTextOf text job
+form_of_rows : (text : List ℕ) (rows : List Row) (job : Job) → text ≡ text_of (head_line ∷ rows) → read_on now.Head rows ≡ Some job
+    → IsTextOf text job
 form_of_rows text rows job t h = form_from text rows job t (read_from_head rows job h)
 
 -- What a text is read as has this text.
@@ -205,5 +212,6 @@ pub ok_has_text : (text : List ℕ) (result : Result Job ParseFault) → Reads r
 ok_has_text text (Ok job) h = text_sound text job h
 ok_has_text text (Err e) h = tt
 
-pub refused_has_none : (text : List ℕ) (result : Result Job ParseFault) → Reads result (job_of text) → result ≡ Err (fault.Script 0 Unbuilt) → HasNoJob text
+pub refused_has_none : (text : List ℕ) (result : Result Job ParseFault) → Reads result (job_of text) → result ≡ Err (fault.Script 0 Unbuilt)
+    → HasNoJob text
 refused_has_none text result h e = no_job text (subst (λ (r : Result Job ParseFault). Reads r (job_of text)) e h).2

@@ -25,7 +25,8 @@ one_same k make [] = refl
 one_same {A} k make (a ∷ []) = ap (λ (o : Option A). o >>= λ x. Some (make x)) (k.same a)
 one_same k make (a ∷ b ∷ more) = refl
 
-two_same : {A B C : Type 0} (k : Way A) (l : Way B) (make : A → B → C) (args : Row) → two k.read l.read make (map plain_word args) ≡ two k.read l.read make args
+two_same : {A B C : Type 0} (k : Way A) (l : Way B) (make : A → B → C) (args : Row)
+    → two k.read l.read make (map plain_word args) ≡ two k.read l.read make args
 two_same k l make [] = refl
 two_same k l make (a ∷ []) = refl
 two_same {A} {B} k l make (a ∷ b ∷ []) =
@@ -61,7 +62,8 @@ record Two {A B C : Type 0} (k : Way A) (l : Way B) (make : A → B → C) (args
   fits : (k.fits x && l.fits y) ≡ true
   words : AreWords args
 
-two_says : {A B C : Type 0} (k : Way A) (l : Way B) (make : A → B → C) (args : Row) (z : C) → two k.read l.read make args ≡ Some z → Two k l make args z
+two_says : {A B C : Type 0} (k : Way A) (l : Way B) (make : A → B → C) (args : Row) (z : C) → two k.read l.read make args ≡ Some z
+    → Two k l make args z
 two_says k l make [] z h = cc
 two_says k l make (a ∷ []) z h = cc
 two_says k l make (a ∷ b ∷ c ∷ more) z h = cc
@@ -80,7 +82,8 @@ two_says k l make (a ∷ b ∷ []) z h =
 one_again : {A C : Type 0} (k : Way A) (make : A → C) (x : A) → k.fits x ≡ true → one k.read make (k.word_of x ∷ []) ≡ Some (make x)
 one_again {A} k make x f = ap (λ (o : Option A). o >>= λ x. Some (make x)) (k.again x f)
 
-two_again : {A B C : Type 0} (k : Way A) (l : Way B) (make : A → B → C) (x : A) (y : B) → (k.fits x && l.fits y) ≡ true → two k.read l.read make (k.word_of x ∷ l.word_of y ∷ []) ≡ Some (make x y)
+two_again : {A B C : Type 0} (k : Way A) (l : Way B) (make : A → B → C) (x : A) (y : B) → (k.fits x && l.fits y) ≡ true
+    → two k.read l.read make (k.word_of x ∷ l.word_of y ∷ []) ≡ Some (make x y)
 two_again {A} {B} k l make x y f =
     let e = both (k.fits x) (l.fits y) f in
     ap (λ (o : Option A). o >>= λ x. l.read (l.word_of y) >>= λ y. Some (make x y)) (k.again x e.0)
@@ -141,7 +144,8 @@ statement_fits : (refs : ℕ) (s : stmt.Plain) → fits (only refs) (stmt.made_o
 statement_fits refs s = ap (λ (f : ℕ → Bool). f 32) (stmt.folds (fits_step (only refs)) s)
 
 -- a row whose plain form is that of a straight statement within the limits says this statement
-spoken : (refs : ℕ) (s : stmt.Plain) (k : Keyword) (args : Row) (m : Statement) → stmt.made_of s ≡ m → keyword_word k ∷ map plain_word args ≡ row_of s → plain_fits refs s ≡ true → AreWords args → Says refs (keyword_word k ∷ args) (says.Plain m)
+spoken : (refs : ℕ) (s : stmt.Plain) (k : Keyword) (args : Row) (m : Statement) → stmt.made_of s ≡ m → keyword_word k ∷ map plain_word args ≡ row_of s
+    → plain_fits refs s ≡ true → AreWords args → Says refs (keyword_word k ∷ args) (says.Plain m)
 spoken refs s k args m e p f w =
     subst (λ (m : Statement). Says refs (keyword_word k ∷ args) (says.Plain m)) e (record {
       plain = ap (λ (z : List ℕ). (z ∷ map plain_word args) ∷ []) (keyword_plain k) ∙ ap (λ (row : Row). row ∷ []) p ∙ sym (statement_row s);
@@ -161,7 +165,8 @@ first_kept true true c h = h
 first_kept true false c h = cc
 first_kept false b c h = cc
 
-statement_says : (refs : ℕ) (k : Keyword) (args : Row) (m : Statement) → statement_of refs k args ≡ Some m → Says refs (keyword_word k ∷ args) (says.Plain m)
+statement_says : (refs : ℕ) (k : Keyword) (args : Row) (m : Statement) → statement_of refs k args ≡ Some m
+    → Says refs (keyword_word k ∷ args) (says.Plain m)
 statement_says refs key.Const args m h =
     let t = two_says register_way number_way made.Const args m h in
     spoken refs (stmt.const t.x t.y) key.Const args m t.is (ap (λ (more : Row). codes "const" ∷ more) t.plain) t.fits t.words
@@ -185,7 +190,8 @@ statement_says refs _ args m h = cc
 -- ---- lines
 
 -- a line of one word
-alone : (refs : ℕ) (k : Keyword) (l : Line) → (keyword_word k ∷ []) ∷ [] ≡ line_rows l → LineFits refs l → (args : Row) (line : Line) → (no_field args >>= λ _. Some l) ≡ Some line → Says refs (keyword_word k ∷ args) line
+alone : (refs : ℕ) (k : Keyword) (l : Line) → (keyword_word k ∷ []) ∷ [] ≡ line_rows l → LineFits refs l → (args : Row) (line : Line)
+    → (no_field args >>= λ _. Some l) ≡ Some line → Says refs (keyword_word k ∷ args) line
 alone refs k l e f (a ∷ more) line h = cc
 alone refs k l e f [] line h =
     subst (Says refs (keyword_word k ∷ [])) (some_same l line h) (record {

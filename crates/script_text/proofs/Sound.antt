@@ -121,7 +121,8 @@ ended (now.Script o workers scripts block) job l h = cc
 abbrev Leads : Reader → Line → List Row → Job → Reader → Type 0
 Leads reader line rows job next = Limits next × (From next rows job → From reader (line_rows line ++ rows) job)
 
-statement_leads : (o : Opened) (workers : List (List Script)) (scripts : List Script) (before : List Statement) (m : Statement) (rows : List Row) (job : Job) → LineFits o.refs (says.Plain m)
+statement_leads : (o : Opened) (workers : List (List Script)) (scripts : List Script) (before : List Statement) (m : Statement) (rows : List Row) (job : Job)
+    → LineFits o.refs (says.Plain m)
     → FromScript o workers scripts (before ++ m ∷ []) rows job → FromScript o workers scripts before (statement_lines m ++ rows) job
 statement_leads o workers scripts before m rows job f r = record {
   block = m ∷ r.block;
@@ -240,7 +241,8 @@ opening_leads o cell n rows job l f r = record {
   good = r.good;
 }
 
-refs_lead : (refs : ℕ) (rows : List Row) (job : Job) → refs ≤ 65536 → FromOpenings (opened refs) rows job → FromHead (line_rows (says.Refs refs) ++ rows) job
+refs_lead : (refs : ℕ) (rows : List Row) (job : Job) → refs ≤ 65536 → FromOpenings (opened refs) rows job
+    → FromHead (line_rows (says.Refs refs) ++ rows) job
 refs_lead refs rows job l r = record {
   header = true;
   refs = refs;
@@ -255,7 +257,8 @@ refs_lead refs rows job l r = record {
   good = r.good;
 }
 
-leads : (reader : Reader) (line : Line) (next : Reader) (rows : List Row) (job : Job) → Limits reader → LineFits (refs_of reader) line → taken reader line ≡ Some next → Leads reader line rows job next
+leads : (reader : Reader) (line : Line) (next : Reader) (rows : List Row) (job : Job) → Limits reader → LineFits (refs_of reader) line
+    → taken reader line ≡ Some next → Leads reader line rows job next
 leads now.Head (says.Refs n) next rows job l f h =
     subst (Leads now.Head (says.Refs n) rows job) (some_same (now.Openings (opened n)) next h) (tt, refs_lead n rows job f)
 leads now.Head says.Worker next rows job l f h =
@@ -282,7 +285,8 @@ leads (now.Script o workers scripts block) says.End next rows job l f h =
     ((l.0, omega (arith, l.1, length-append scripts (script ∷ []))), end_leads o workers scripts block rows job)
 leads _ _ next rows job l f h = cc
 
-read_from : (rows : List Row) (reader : Reader) (job : Job) → Limits reader → read_on reader rows ≡ Some job → From reader (map (map plain_word) rows) job
+read_from : (rows : List Row) (reader : Reader) (job : Job) → Limits reader → read_on reader rows ≡ Some job
+    → From reader (map (map plain_word) rows) job
 read_from [] reader job l h = ended reader job l h
 read_from (row ∷ rows) reader job l h =
     let b = bind_some (step reader row) (λ next. read_on next rows) job h in

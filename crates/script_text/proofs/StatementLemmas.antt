@@ -68,7 +68,8 @@ straight s = folds straight_step s ∙ at s where
 abbrev IsPlain : Statement → Type 0
 IsPlain m = is_straight m ≡ true → (s : Plain) × (m ≡ made_of s)
 
-layer_plain : (x : Statement-F Statement) → straight_step (map-Statement Statement Bool is_straight x) ≡ true → (s : Plain) × (roll-Statement x ≡ made_of s)
+layer_plain : (x : Statement-F Statement) → straight_step (map-Statement Statement Bool is_straight x) ≡ true
+    → (s : Plain) × (roll-Statement x ≡ made_of s)
 layer_plain (layer.Const r n) h = (const r n, made.rolls-Const r n)
 layer_plain (layer.Read r cell) h = (read r cell, made.rolls-Read r cell)
 layer_plain (layer.Write cell x) h = (write cell x, made.rolls-Write cell x)

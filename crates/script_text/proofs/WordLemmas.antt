@@ -94,7 +94,8 @@ number_of_other b w h =
       at false e = no_number (nat_le (length (b ∷ w)) 20) (is_nonempty (b ∷ w)) (nat_lt (digits_value 10 (b ∷ w)) (2 ^ 64))
 
 -- a word with no number keeps what is read of it in its plain form, if nothing is read of numbers
-pub same_beside : {A : Type 0} (read : List ℕ → Option A) → ((w : List ℕ) (n : ℕ) → number_of w ≡ Some n → read w ≡ None) → (w : List ℕ) → read (plain_word w) ≡ read w
+pub same_beside : {A : Type 0} (read : List ℕ → Option A) → ((w : List ℕ) (n : ℕ) → number_of w ≡ Some n → read w ≡ None) → (w : List ℕ)
+    → read (plain_word w) ≡ read w
 same_beside {A} read f w = at (number_of w) refl where
   at : (o : Option ℕ) → number_of w ≡ o → read (plain_word w) ≡ read w
   at None e = ap read (plain_other w e)

@@ -111,7 +111,8 @@ pub fn one_field(rest: Option<&[u8]>) -> Option<&[u8]>
 }
 
 pub fn two_fields(rest: Option<&[u8]>) -> Option<(&[u8], &[u8])>
-    ensures { let found = two_fields (fields_behind (option_copied rest.entry)) in MatchOption result (found ≡ None) (λ w. found ≡ Some (w.0.now, w.1.now)) }
+    ensures { let found = two_fields (fields_behind (option_copied rest.entry)) in
+        MatchOption result (found ≡ None) (λ w. found ≡ Some (w.0.now, w.1.now)) }
 {
     let (first, more) = cut_field(rest?);
     let second = one_field(more)?;
