@@ -12,15 +12,16 @@ use Rattle.ledger_model.specs.declared.script.Statement.TheFolds.{fold-Statement
 abbrev pub is_register : ℕ → Bool
 is_register r = nat_lt r 16
 
-abbrev pub is_number : ℕ → Bool
-is_number n = nat_lt n (2 ^ 64)
+-- a number of 64 bits
+abbrev pub fits_word : ℕ → Bool
+fits_word n = nat_lt n (2 ^ 64)
 
 abbrev pub is_code : ℕ → Bool
 is_code code = nat_lt 0 code && nat_lt code (2 ^ 16)
 
 abbrev pub operand_fits : Operand → Bool
 operand_fits (Reg r) = is_register r
-operand_fits (Number n) = is_number n
+operand_fits (Number n) = fits_word n
 
 -- what there is, for scripts to name
 pub record Places : Type 0 where
@@ -44,7 +45,7 @@ nests (suc left) inside = inside left
 
 -- Registers and numbers are in range, what is named is there, and blocks nest at most so deep.
 abbrev pub fits_step : Places → Statement-F (ℕ → Bool) → ℕ → Bool
-fits_step p (Const r n) left = is_register r && is_number n
+fits_step p (Const r n) left = is_register r && fits_word n
 fits_step p (Read r cell) left = is_register r && nat_lt cell p.refs
 fits_step p (Write cell x) left = nat_lt cell p.refs && operand_fits x
 fits_step p (Add r x) left = is_register r && operand_fits x
@@ -56,7 +57,7 @@ fits_step p (Move from into x) left = nat_lt from p.refs && nat_lt into p.refs &
 fits_step p (Inner r block) left = is_register r && nests left (λ inside. each_fits inside block)
 fits_step p (Either parts) left = nat_le 2 (length parts) && nests left (λ inside. each_part_fits inside parts)
 fits_step p (Late block) left = nests left (λ inside. each_fits inside block)
-fits_step p (Hook phase token) left = is_number token
+fits_step p (Hook phase token) left = fits_word token
 fits_step p (Put m x y) left = nat_lt m p.maps && operand_fits x && operand_fits y
 fits_step p (Del m x) left = nat_lt m p.maps && operand_fits x
 fits_step p (Look r m x y) left = is_register r && nat_lt m p.maps && operand_fits x && operand_fits y
@@ -75,11 +76,11 @@ block_fits p left block = each_fits left (map (fits p) block)
 abbrev pub ScriptFits : Places → Script → Type 0
 ScriptFits p script = IsTrue (block_fits p 32 script.block)
 
--- references in ascending order, from `next` on, each with a value other than 0
-abbrev pub OpeningsFit : ℕ → ℕ → List (ℕ × ℕ) → Type 0
-OpeningsFit refs next [] = Unit {0}
-OpeningsFit refs next (opening ∷ openings) =
-    (next ≤ opening.0) × (opening.0 < refs) × (0 < opening.1) × (opening.1 < 2 ^ 64) × OpeningsFit refs (opening.0 + 1) openings
+-- references that are there, in ascending order from `next` on, with their values
+abbrev pub OpeningsAscend : ℕ → ℕ → List (ℕ × ℕ) → Type 0
+OpeningsAscend refs next [] = Unit {0}
+OpeningsAscend refs next (opening ∷ openings) =
+    (next ≤ opening.0) × (opening.0 < refs) × (opening.1 < 2 ^ 64) × OpeningsAscend refs (opening.0 + 1) openings
 
 abbrev pub WorkerFits : Places → List Script → Type 0
 WorkerFits p scripts = (length scripts ≤ 4096) × AllByRecursion (ScriptFits p) scripts
@@ -93,7 +94,8 @@ pub record JobFits (job : Job) : Type 0 where
   pub maps : job.maps ≤ 64
   pub snaps : job.snaps ≤ 64
   pub blocks : job.blocks ≤ 65536
-  pub openings : OpeningsFit job.refs 0 job.openings
+  pub openings : OpeningsAscend job.refs 0 job.openings
+  pub opened : AllByRecursion (λ opening. 0 < opening.1) job.openings
   pub workers : length job.workers ≤ 16
   pub scripts : AllByRecursion (WorkerFits (places job)) job.workers
   pub steps : length job.steps ≤ 262144

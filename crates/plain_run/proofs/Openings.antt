@@ -4,13 +4,13 @@ use Rattle.std.specs.List.{AllByRecursion}
 use Rattle.std.proofs.lemmas.List.{length-replicate, length-set}
 use Rattle.ledger_model.specs.declared.job.Job.{Job}
 use Rattle.ledger_model.specs.Contents.{opened, opening_contents}
-use Rattle.ledger_model.specs.Fits.{OpeningsFit, Places, places}
+use Rattle.ledger_model.specs.Fits.{OpeningsAscend, Places, places}
 use Rattle.plain_run.specs.Counts.{places_in}
 
 -- each opening names a reference that is there
-pub openings_within : (refs next : ℕ) (openings : List (ℕ × ℕ)) → OpeningsFit refs next openings → AllByRecursion (λ opening. opening.0 < refs) openings
+pub openings_within : (refs next : ℕ) (openings : List (ℕ × ℕ)) → OpeningsAscend refs next openings → AllByRecursion (λ opening. opening.0 < refs) openings
 openings_within refs next [] fit = tt
-openings_within refs next (opening ∷ openings) fit = (fit.1, openings_within refs (opening.0 + 1) openings fit.4)
+openings_within refs next (opening ∷ openings) fit = (fit.1, openings_within refs (opening.0 + 1) openings fit.3)
 
 length-opened : (openings : List (ℕ × ℕ)) (refs : List ℕ) → length (opened openings refs) ≡ length refs
 length-opened [] refs = refl

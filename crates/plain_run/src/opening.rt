@@ -1,7 +1,7 @@
 //! The contents that a job begins with.
 ghost use Rattle.std.specs.Prelude.{◌≡◌, [], replicate, IfOk};
 ghost use Rattle.ledger_model.specs.Contents.{opened, opening_contents};
-ghost use Rattle.ledger_model.specs.Fits.{JobFits, OpeningsFit};
+ghost use Rattle.ledger_model.specs.Fits.{JobFits, OpeningsAscend};
 
 use ledger_model::{Contents, Job, PairLists};
 use std::alloc::Global;
@@ -20,7 +20,7 @@ pub fn opening_contents(alloc: Global, job: &Job) -> Result<Contents, Memory>
 }
 
 fn opened_refs(alloc: Global, job: &Job) -> Result<Words, Memory>
-    requires { OpeningsFit job.now.refs 0 job.now.openings }
+    requires { OpeningsAscend job.now.refs 0 job.now.openings }
     ensures { IfOk result (λ refs. refs ≡ opened job.now.openings (replicate job.now.refs 0)) }
 {
     let mut refs = vec![in alloc; 0; job.refs as usize]?;

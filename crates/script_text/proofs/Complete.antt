@@ -16,7 +16,8 @@ use Rattle.script_text.specs.declared.reader.Reader.TheVariants as now
 use Rattle.script_text.specs.Words.{◌>>=◌}
 use Rattle.script_text.specs.Reading.{line_of, opened, with_opening, refs_of, taken, step, job_with, finished, read_on}
 use Rattle.script_text.specs.Printing.{refs_line, opening_line, end_line, statement_lines, block_lines, script_lines, worker_lines}
-use Rattle.script_text.specs.Form.{OpeningsAscend, is_set}
+use Rattle.ledger_model.specs.Fits.{OpeningsAscend}
+use Rattle.script_text.specs.Form.{is_set}
 use Rattle.script_text.proofs.Options.{bind_some}
 use Rattle.script_text.proofs.WordLemmas.{lt_true}
 use Rattle.script_text.proofs.LineLemmas.{Good, LineFits, line_rows, line_again, line_same, line_says}

@@ -11,14 +11,14 @@ use Rattle.ledger_model.specs.declared.job.Job.{Job}
 use Rattle.ledger_model.specs.declared.reason.Reason.TheVariants.{Unbuilt}
 use Rattle.ledger_model.specs.declared.script.Script.{Script}
 use Rattle.ledger_model.specs.declared.script.Statement.{Statement}
-use Rattle.ledger_model.specs.Fits.{Places, fits, block_fits, ScriptFits, WorkerFits, OpeningsFit, JobFits, places}
+use Rattle.ledger_model.specs.Fits.{Places, fits, block_fits, ScriptFits, WorkerFits, OpeningsAscend, JobFits, places}
 use Rattle.ledger_model.specs.Straight.{is_straight, IsStraightScript, IsStraight}
 use Rattle.script_text.specs.declared.fault.ParseFault.{ParseFault}
 use Rattle.script_text.specs.declared.fault.ParseFault.TheVariants as fault
 use Rattle.script_text.specs.declared.reader.Reader.TheVariants as now
 use Rattle.script_text.specs.Reading.{read_on, read_lines, job_of, job_with, Reads}
 use Rattle.script_text.specs.Printing.{head_line, refs_line, opening_line, worker_lines}
-use Rattle.script_text.specs.Form.{OpeningsAscend, is_set, IsTextOf, HasNoJob, straight_lines, straight_text}
+use Rattle.script_text.specs.Form.{is_set, IsTextOf, HasNoJob, straight_lines, straight_text}
 use Rattle.script_text.proofs.Options.{some_same}
 use Rattle.script_text.proofs.WordLemmas.{bytes_same}
 use Rattle.script_text.proofs.LineLemmas.{only}
@@ -70,26 +70,31 @@ workers_good refs [] f s = tt
 workers_good refs (scripts ∷ more) f s = ((f.0.0, scripts_good refs scripts f.0.1 s.0), workers_good refs more f.1 s.1)
 
 -- the openings that are set ascend too
-set_fit : (written : List (ℕ × ℕ)) (refs low next : ℕ) → low ≤ next → OpeningsAscend refs next written → OpeningsFit refs low (filter is_set written)
-set_fit [] refs low next l a = tt
-set_fit (opening ∷ written) refs low next l a = at (nat_eq opening.1 0) refl (λ k. set_fit written refs k (opening.0 + 1)) where
+set_ascend : (written : List (ℕ × ℕ)) (refs low next : ℕ) → low ≤ next → OpeningsAscend refs next written → OpeningsAscend refs low (filter is_set written)
+set_ascend [] refs low next l a = tt
+set_ascend (opening ∷ written) refs low next l a = at (is_set opening) (λ k. set_ascend written refs k (opening.0 + 1)) where
+  at : (b : Bool) → ((k : ℕ) → k ≤ opening.0 + 1 → OpeningsAscend refs (opening.0 + 1) written → OpeningsAscend refs k (filter is_set written))
+      → OpeningsAscend refs low (cond b (opening ∷ filter is_set written) (filter is_set written))
+  at false f = f low (let n = a.0 in omega arith) a.3
+  at true f = ((let n = a.0 in omega arith), a.1, a.2, f (opening.0 + 1) (omega arith) a.3)
+
+-- and their values are other than 0
+set_opened : (written : List (ℕ × ℕ)) → AllByRecursion (λ opening. 0 < opening.1) (filter is_set written)
+set_opened [] = tt
+set_opened (opening ∷ written) = at (nat_eq opening.1 0) refl (set_opened written) where
   not_zero : (n : ℕ) → nat_eq n 0 ≡ false → 0 < n
   not_zero n h = grind (arith, nat_tests)
 
-  at : (b : Bool) → nat_eq opening.1 0 ≡ b → ((k : ℕ) → k ≤ opening.0 + 1 → OpeningsAscend refs (opening.0 + 1) written → OpeningsFit refs k (filter is_set written))
-      → OpeningsFit refs low (cond (not b) (opening ∷ filter is_set written) (filter is_set written))
-  at true e f = f low (let n = a.0 in omega arith) a.3
-  at false e f = ((let n = a.0 in omega arith), a.1, not_zero opening.1 e, a.2, f (opening.0 + 1) (omega arith) a.3)
+  at : (b : Bool) → nat_eq opening.1 0 ≡ b → AllByRecursion (λ opening. 0 < opening.1) (filter is_set written)
+      → AllByRecursion (λ opening. 0 < opening.1) (cond (not b) (opening ∷ filter is_set written) (filter is_set written))
+  at true e opened = opened
+  at false e opened = (not_zero opening.1 e, opened)
 
-fit_ascend : (openings : List (ℕ × ℕ)) (refs next : ℕ) → OpeningsFit refs next openings → OpeningsAscend refs next openings
-fit_ascend [] refs next f = tt
-fit_ascend (opening ∷ openings) refs next f = (f.0, f.1, f.3, fit_ascend openings refs (opening.0 + 1) f.4)
-
-fit_set : (openings : List (ℕ × ℕ)) (refs next : ℕ) → OpeningsFit refs next openings → filter is_set openings ≡ openings
-fit_set [] refs next f = refl
-fit_set (opening ∷ openings) refs next f =
-    ap (λ (b : Bool). cond (not b) (opening ∷ filter is_set openings) (filter is_set openings)) (positive opening.1 f.2)
-    ∙ ap (λ (os : List (ℕ × ℕ)). opening ∷ os) (fit_set openings refs (opening.0 + 1) f.4) where
+filter-opened : (openings : List (ℕ × ℕ)) → AllByRecursion (λ opening. 0 < opening.1) openings → filter is_set openings ≡ openings
+filter-opened [] opened = refl
+filter-opened (opening ∷ openings) opened =
+    ap (λ (b : Bool). cond (not b) (opening ∷ filter is_set openings) (filter is_set openings)) (positive opening.1 opened.0)
+    ∙ ap (λ (os : List (ℕ × ℕ)). opening ∷ os) (filter-opened openings opened.1) where
       positive : (n : ℕ) → 0 < n → nat_eq n 0 ≡ false
       positive n h = grind (arith, nat_tests)
 
@@ -116,7 +121,8 @@ fits_from rows refs written workers l a n g = record {
   maps = omega arith;
   snaps = omega arith;
   blocks = omega arith;
-  openings = set_fit written refs 0 0 (omega arith) a;
+  openings = set_ascend written refs 0 0 (omega arith) a;
+  opened = set_opened written;
   workers = n;
   scripts = workers_fit refs workers g;
   steps = omega arith;
@@ -205,8 +211,8 @@ straight_has_text job f s = form_of_rows (straight_text job) (straight_lines job
 
   read : read_on now.Head (rows_of (not (nat_eq job.refs 0)) job.refs job.openings job.workers) ≡ Some job
   read =
-      job_read (not (nat_eq job.refs 0)) job.refs job.openings job.workers (not_set job.refs) f.refs (fit_ascend job.openings job.refs 0 f.openings) f.workers (good_workers job f s)
-      ∙ ap (λ (os : List (ℕ × ℕ)). Some (job_with job.refs os job.workers)) (fit_set job.openings job.refs 0 f.openings) ∙ ap (λ (j : Job). Some j) (sym (parts job s))
+      job_read (not (nat_eq job.refs 0)) job.refs job.openings job.workers (not_set job.refs) f.refs f.openings f.workers (good_workers job f s)
+      ∙ ap (λ (os : List (ℕ × ℕ)). Some (job_with job.refs os job.workers)) (filter-opened job.openings f.opened) ∙ ap (λ (j : Job). Some j) (sym (parts job s))
 
 pub ok_has_text : (text : List ℕ) (result : Result Job ParseFault) → Reads result (job_of text) → IfOk result (IsTextOf text)
 ok_has_text text (Ok job) h = text_sound text job h

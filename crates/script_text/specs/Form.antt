@@ -3,15 +3,9 @@ use Rattle.std.specs.Prelude.{◌≡◌, ℕ, ◌+◌, ◌^◌, ◌<◌, ◌≤�
 use Rattle.text_lines.specs.Lines.{Row, text_of}
 use Rattle.text_lines.specs.Numbers.{plain_word}
 use Rattle.ledger_model.specs.declared.job.Job.{Job}
-use Rattle.ledger_model.specs.Fits.{JobFits}
+use Rattle.ledger_model.specs.Fits.{JobFits, OpeningsAscend}
 use Rattle.ledger_model.specs.Straight.{IsStraight}
 use Rattle.script_text.specs.Printing.{head_line, refs_line, opening_line, worker_lines}
-
--- references in ascending order, from `next` on
-abbrev pub OpeningsAscend : ℕ → ℕ → List (ℕ × ℕ) → Type 0
-OpeningsAscend refs next [] = Unit {0}
-OpeningsAscend refs next (opening ∷ openings) =
-    (next ≤ opening.0) × (opening.0 < refs) × (opening.1 < 2 ^ 64) × OpeningsAscend refs (opening.0 + 1) openings
 
 abbrev pub is_set : ℕ × ℕ → Bool
 is_set opening = not (nat_eq opening.1 0)
