@@ -1,17 +1,15 @@
 -- What follows from the answers of the top call, case by case.
-use Rattle.std.proofs.Common.{◌≡◌, ◌⊎◌, ◌∙◌, ◌≤◌, ◌<◌, ◌+◌, ◌++◌, inl, inr, ℕ, List, length, length-append, append-nil, Option, Some, None, refl, sym, ap, subst, arith}
-use Rattle.std.specs.Io.KnownBytes.{Consumes}
+use Rattle.std.proofs.Common.{◌≡◌, ◌⊎◌, ◌∙◌, ◌≤◌, ◌+◌, ◌++◌, inl, inr, ℕ, List, length, length-append, append-nil, Option, Some, None, refl, sym, ap, subst, arith}
 use Rattle.stm_io.specs.Faults.{Rose}
 use Rattle.stm_io.specs.Whole.{TookAll, TookCount, most_bytes}
-use Rattle.ledger_model.specs.declared.job.Job.{Job}
 use Rattle.ledger_model.specs.declared.reason.Reason.{Reason}
-use Rattle.ledger_model.specs.declared.reason.Reason.TheVariants.{Long, Unbuilt}
+use Rattle.ledger_model.specs.declared.reason.Reason.TheVariants.{Unbuilt}
 use Rattle.script_text.specs.Form.{HasNoJob, IsTextOf}
 use Rattle.script_text.specs.declared.fault.ParseFault.{ParseFault}
 use Rattle.script_text.specs.declared.fault.ParseFault.TheVariants as parsing
 use Rattle.ledger_host.specs.Refusals.{IsRefusalOf, refusal_of}
 use Rattle.ledger_host.specs.Words.{AsksTrace}
-use Rattle.ledger_host.specs.Answers.{Answers, HasReport, IsNoJob, IsRefused, IsRefusedText, TookTooMany, TellsJob, TellsNoJob}
+use Rattle.ledger_host.specs.Answers.{Answers, HasReport, IsRefused, IsRefusedText, TookTooMany, TellsJob, TellsNoJob}
 use Rattle.ledger_host.specs.declared.host.HostStatus.{HostStatus}
 use Rattle.ledger_host.specs.declared.host.HostStatus.TheVariants.{Done, Usage, Script, ReadFault, WriteFault, Memory}
 

@@ -1,5 +1,5 @@
 -- A job has no more scripts than the clock can count.
-use Rattle.std.proofs.Common.{◌≡◌, ◌+◌, ◌*◌, ◌≤◌, ℕ, List, [], ◌∷◌, length, arith}
+use Rattle.std.proofs.Common.{◌*◌, ◌≤◌, ℕ, List, [], ◌∷◌, length, arith}
 use Rattle.std.specs.Prelude.{sum_by}
 use Rattle.std.proofs.lemmas.List.Sums.{sum_by-cons}
 use Rattle.std.specs.List.{AllByRecursion}

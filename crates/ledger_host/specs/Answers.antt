@@ -1,5 +1,5 @@
 -- When each answer of the top call comes, and what it leaves.
-use Rattle.std.specs.Prelude.{◌≡◌, ◌⊎◌, ◌+◌, ◌<◌, ◌≤◌, ℕ, List, Option, Some, None, length}
+use Rattle.std.specs.Prelude.{◌≡◌, ◌⊎◌, ◌+◌, ◌<◌, ◌≤◌, ℕ, List, Option, Some, length}
 use Rattle.std.specs.Io.KnownBytes.{Appends}
 use Rattle.stm_io.specs.Faults.{Rose}
 use Rattle.stm_io.specs.Whole.{AppendedProperFront, TookAll, TookCount, most_bytes}

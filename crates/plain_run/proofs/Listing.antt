@@ -12,7 +12,7 @@ use Rattle.ledger_model.specs.declared.job.Job.{Job}
 use Rattle.ledger_model.specs.declared.listing.Row.{Row}
 use Rattle.ledger_model.specs.Contents.{opening_contents}
 use Rattle.ledger_model.specs.Order.{less_or_tied, stands_before}
-use Rattle.ledger_model.specs.Replays.{writers_of, rows_of, run_of, scripts_of, block_of, contents_after, NamesScript, ListsScripts, Tells, TellsWriter, TellsReader, TellsRow, InOrder, Replays}
+use Rattle.ledger_model.specs.Replays.{writers_of, rows_of, run_of, scripts_of, block_of, contents_after, NamesScript, ListsScripts, TellsWriter, TellsReader, TellsRow, InOrder, Replays}
 use Rattle.ledger_model.specs.Turns.{ComesAfter, InTurns}
 use Rattle.ledger_model.specs.Run.{Outcome, End, run}
 use Rattle.ledger_model.specs.Settle.{Settled, Commits, OnlyReads, Spends, settle, completing, handler_runs}

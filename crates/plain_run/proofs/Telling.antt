@@ -10,7 +10,7 @@ use Rattle.ledger_model.specs.declared.listing.Row.{Row}
 use Rattle.ledger_model.specs.Contents.{opening_contents}
 use Rattle.ledger_model.specs.Replays.{writers_of, run_of, left_by, after_writers, contents_after, Tells, TellsResult, TellsWriter, TellsReader, TellsRow}
 use Rattle.ledger_model.specs.Run.{allowance}
-use Rattle.ledger_model.specs.Settle.{Settled, Commits, OnlyReads}
+use Rattle.ledger_model.specs.Settle.{Settled, Commits}
 
 pub writers_of-push_writer : (rows : List Row) (row : Row) → row.writer ≡ true → writers_of (rows ++ row ∷ []) ≡ writers_of rows ++ row ∷ []
 writers_of-push_writer rows row is =

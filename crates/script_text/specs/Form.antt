@@ -1,5 +1,5 @@
 -- Which text is which job, in the form that is built: references, and scripts that go straight on.
-use Rattle.std.specs.Prelude.{◌≡◌, ℕ, ◌+◌, ◌^◌, ◌<◌, ◌≤◌, Bool, false, not, nat_eq, if◌then◌else◌, List, [], ◌∷◌, ◌++◌, map, filter, flat_map}
+use Rattle.std.specs.Prelude.{◌≡◌, ℕ, Bool, false, not, nat_eq, if◌then◌else◌, List, [], ◌∷◌, ◌++◌, map, filter, flat_map}
 use Rattle.text_lines.specs.Lines.{Row, text_of}
 use Rattle.text_lines.specs.Numbers.{plain_word}
 use Rattle.ledger_model.specs.declared.job.Job.{Job}

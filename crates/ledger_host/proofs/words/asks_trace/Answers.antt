@@ -1,4 +1,4 @@
-use Rattle.std.proofs.Common.{string_bytes, codes, sym, ◌∙◌, arith}
+use Rattle.std.proofs.Common.{string_bytes, codes, sym, ◌∙◌}
 use Rattle.std.proofs.lemmas.Slice.Eq.{slice_eq-Decides}
 use Rattle.std.proofs.lemmas.Bool.Decides.{Decides-eqb}
 use Rattle.ledger_host.proofs.SingleWord.{map-single}
