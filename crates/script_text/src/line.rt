@@ -66,38 +66,28 @@ fn statement_of(refs: u32, keyword: Keyword, rest: Option<&[u8]>) -> Option<Stat
     match keyword {
         Keyword::Const => {
             let (reg, number) = two_fields(rest)?;
-            Some(Statement::Const {
-                reg: register_of(reg)?,
-                number: number_of(number)?,
-            })
+            let (reg, number) = (register_of(reg)?, number_of(number)?);
+            Some(Statement::Const { reg, number })
         }
         Keyword::Read => {
             let (reg, cell) = two_fields(rest)?;
-            Some(Statement::Read {
-                reg: register_of(reg)?,
-                cell: below(refs, cell)?,
-            })
+            let (reg, cell) = (register_of(reg)?, below(refs, cell)?);
+            Some(Statement::Read { reg, cell })
         }
         Keyword::Write => {
             let (cell, value) = two_fields(rest)?;
-            Some(Statement::Write {
-                cell: below(refs, cell)?,
-                value: operand_of(value)?,
-            })
+            let (cell, value) = (below(refs, cell)?, operand_of(value)?);
+            Some(Statement::Write { cell, value })
         }
         Keyword::Add => {
             let (reg, value) = two_fields(rest)?;
-            Some(Statement::Add {
-                reg: register_of(reg)?,
-                value: operand_of(value)?,
-            })
+            let (reg, value) = (register_of(reg)?, operand_of(value)?);
+            Some(Statement::Add { reg, value })
         }
         Keyword::Sub => {
             let (reg, value) = two_fields(rest)?;
-            Some(Statement::Sub {
-                reg: register_of(reg)?,
-                value: operand_of(value)?,
-            })
+            let (reg, value) = (register_of(reg)?, operand_of(value)?);
+            Some(Statement::Sub { reg, value })
         }
         Keyword::Print => Some(Statement::Print {
             value: operand_of(one_field(rest)?)?,
