@@ -2,7 +2,7 @@
 use Rattle.std.proofs.Common.{◌≡◌, ℕ, ◌+◌, ◌-◌, ◌*◌, ◌/◌, ◌%◌, ◌^◌, ◌<◌, Bool, true, false, not, eqb, refl, sym, ap, ◌∙◌, arith}
 use Rattle.std.specs.Int.{bit_at, from_bool}
 use Rattle.std.specs.Int.Bits.{bit_and, bit_or, or_add_and, and_block}
-use Rattle.std.proofs.lemmas.Nat.{and_comm, and_mask, and-not, pow_pos}
+use Rattle.std.proofs.lemmas.Nat.{and_comm, and_mask, pow_pos}
 use Rattle.std.proofs.lemmas.Nat.Bits.{and_pow, and_high, bit_at-lt}
 
 -- ---- a bit as a truth value

@@ -1,9 +1,10 @@
 -- Metadata words and their fields.
-use Rattle.std.proofs.Common.{◌≡◌, ℕ, ◌+◌, ◌-◌, ◌*◌, ◌/◌, ◌%◌, ◌^◌, ◌<◌, ◌≤◌, Bool, true, false, not, eqb, refl, ap, ◌∙◌, sym, subst, arith}
-use Rattle.std.specs.Int.{from_bool, bit_at}
+use Rattle.std.proofs.Common.{◌≡◌, ℕ, ◌+◌, ◌*◌, ◌/◌, ◌%◌, ◌^◌, ◌<◌, Bool, true, false, not, eqb, ap, ◌∙◌, sym, arith}
+use Rattle.std.specs.Int.{bit_not, from_bool, w64}
 use Rattle.std.specs.Int.Bits.{bit_and, bit_or, or_lt}
 use Rattle.std.proofs.lemmas.Nat.{or_shifted, and_comm, and_le_l, and-not, and_mask}
 use Rattle.meta_word.specs.declared.meta.Meta.{Meta}
+use Rattle.meta_word.specs.declared.meta.TheConstants.{CHANGING_BIT, MAX_OWNER, MAX_VERSION, OWNER_AND_CHANGING_BITS, PENDING_BIT}
 use Rattle.meta_word.specs.Meta.{MetaFits, meta_of, meta_word}
 use Rattle.meta_word.proofs.BitLemmas.{from_bool_below, truth_of_number, number_of_truth, mask_tests_bit, or_bit, and_bit_and_run}
 
@@ -73,27 +74,27 @@ set_pending : (w s : ℕ) → w < 2 ^ 64 → s + (w / 2 ^ 62 % 2) * 2 ^ 62 ≡ w
     → (s / 2 ^ 63 % 2 ≡ w / 2 ^ 63 % 2) × (s / 2 ^ 62 % 2 ≡ 1) × (s / 2 ^ 51 % 2 ^ 11 ≡ w / 2 ^ 51 % 2 ^ 11) × (s % 2 ^ 51 ≡ w % 2 ^ 51)
 set_pending w s h e = (omega arith, omega arith, omega arith, omega arith)
 
-pub meta_of-or_changing : (word : ℕ) → word < 2 ^ 64 → meta_of (bit_or word (2 ^ 63)) ≡ record (meta_of word) { changing = true }
+pub meta_of-or_changing : (word : ℕ) → word < 2 ^ 64 → meta_of (bit_or word CHANGING_BIT) ≡ record (meta_of word) { changing = true }
 unfolding meta_of
 meta_of-or_changing word h =
-    let s = set_changing word (bit_or word (2 ^ 63)) h (or_bit word 63) in
+    let s = set_changing word (bit_or word CHANGING_BIT) h (or_bit word 63) in
     same_fields _ true _ _ _ _ _ _ (ap (λ (x : ℕ). eqb x 1) s.0) (ap (λ (x : ℕ). eqb x 1) s.1) s.2 s.3
 
-pub meta_of-or_pending : (word : ℕ) → word < 2 ^ 64 → meta_of (bit_or word (2 ^ 62)) ≡ record (meta_of word) { pending = true }
+pub meta_of-or_pending : (word : ℕ) → word < 2 ^ 64 → meta_of (bit_or word PENDING_BIT) ≡ record (meta_of word) { pending = true }
 unfolding meta_of
 meta_of-or_pending word h =
-    let s = set_pending word (bit_or word (2 ^ 62)) h (or_bit word 62) in
+    let s = set_pending word (bit_or word PENDING_BIT) h (or_bit word 62) in
     same_fields _ _ _ true _ _ _ _ (ap (λ (x : ℕ). eqb x 1) s.0) (ap (λ (x : ℕ). eqb x 1) s.1) s.2 s.3
 
 -- ---- clearing owner and changing
 
 -- these bits of a word
-kept_bits : (w : ℕ) → w < 2 ^ 64 → bit_and (2 ^ 63 + (2 ^ 62 - 2 ^ 51)) w ≡ 2 ^ 63 * (w / 2 ^ 63 % 2) + 2 ^ 51 * (w / 2 ^ 51 % 2 ^ 11)
+kept_bits : (w : ℕ) → w < 2 ^ 64 → bit_and OWNER_AND_CHANGING_BITS w ≡ 2 ^ 63 * (w / 2 ^ 63 % 2) + 2 ^ 51 * (w / 2 ^ 51 % 2 ^ 11)
 kept_bits w h =
     let b : ℕ = w / 2 ^ 63 in
     let r : ℕ = w % 2 ^ 63 in
     let whole : w ≡ b * 2 ^ 63 + r = omega arith in
-    ap (λ (x : ℕ). bit_and (2 ^ 63 + (2 ^ 62 - 2 ^ 51)) x) whole
+    ap (λ (x : ℕ). bit_and OWNER_AND_CHANGING_BITS x) whole
     ∙ and_bit_and_run 63 11 51 b r (omega arith) (omega arith) (omega arith)
     ∙ omega arith
 
@@ -102,19 +103,19 @@ cleared : (w s : ℕ) → w < 2 ^ 64 → s + (2 ^ 63 * (w / 2 ^ 63 % 2) + 2 ^ 51
 cleared w s h e = (omega arith, omega arith, omega arith, omega arith)
 
 pub meta_of-cleared : (word : ℕ) → word < 2 ^ 64
-    → meta_of (bit_and word (2 ^ 64 - 1 - (2 ^ 63 + (2 ^ 62 - 2 ^ 51)))) ≡ record (meta_of word) { changing = false; owner = 0 }
+    → meta_of (bit_and word (bit_not w64 OWNER_AND_CHANGING_BITS)) ≡ record (meta_of word) { changing = false; owner = 0 }
 unfolding meta_of
 meta_of-cleared word h =
-    let left : ℕ = bit_and word (2 ^ 64 - 1 - (2 ^ 63 + (2 ^ 62 - 2 ^ 51))) in
+    let left : ℕ = bit_and word (bit_not w64 OWNER_AND_CHANGING_BITS) in
     let s = cleared word left h whole in
     same_fields _ false _ _ _ 0 _ _ (ap (λ (x : ℕ). eqb x 1) s.0) (ap (λ (x : ℕ). eqb x 1) s.1) s.2 s.3
   where
-    whole : bit_and word (2 ^ 64 - 1 - (2 ^ 63 + (2 ^ 62 - 2 ^ 51))) + (2 ^ 63 * (word / 2 ^ 63 % 2) + 2 ^ 51 * (word / 2 ^ 51 % 2 ^ 11)) ≡ word
+    whole : bit_and word (bit_not w64 OWNER_AND_CHANGING_BITS) + (2 ^ 63 * (word / 2 ^ 63 % 2) + 2 ^ 51 * (word / 2 ^ 51 % 2 ^ 11)) ≡ word
     whole =
         ap (λ (x : ℕ). x + (2 ^ 63 * (word / 2 ^ 63 % 2) + 2 ^ 51 * (word / 2 ^ 51 % 2 ^ 11)))
-        (and_comm word (2 ^ 64 - 1 - (2 ^ 63 + (2 ^ 62 - 2 ^ 51))))
-        ∙ ap (λ (x : ℕ). bit_and (2 ^ 64 - 1 - (2 ^ 63 + (2 ^ 62 - 2 ^ 51))) word + x) (sym (kept_bits word h))
-        ∙ and-not 64 (2 ^ 63 + (2 ^ 62 - 2 ^ 51)) word (omega arith) h
+        (and_comm word (bit_not w64 OWNER_AND_CHANGING_BITS))
+        ∙ ap (λ (x : ℕ). bit_and (bit_not w64 OWNER_AND_CHANGING_BITS) word + x) (sym (kept_bits word h))
+        ∙ and-not 64 OWNER_AND_CHANGING_BITS word (omega arith) h
 
 -- ---- the same of packed words
 
@@ -122,26 +123,26 @@ meta_of-cleared word h =
 word_of : (word : ℕ) (meta : Meta) → word < 2 ^ 64 → meta_of word ≡ meta → word ≡ meta_word meta
 word_of word meta h e = sym (meta_word-meta_of word h) ∙ ap meta_word e
 
-pub or_changing-meta_word : (meta : Meta) → MetaFits meta → bit_or (meta_word meta) (2 ^ 63) ≡ meta_word (record meta { changing = true })
+pub or_changing-meta_word : (meta : Meta) → MetaFits meta → bit_or (meta_word meta) CHANGING_BIT ≡ meta_word (record meta { changing = true })
 or_changing-meta_word meta fits =
-    word_of (bit_or (meta_word meta) (2 ^ 63)) (record meta { changing = true })
-    (or_lt 64 (meta_word meta) (2 ^ 63) (meta_word_below meta fits) (omega arith))
+    word_of (bit_or (meta_word meta) CHANGING_BIT) (record meta { changing = true })
+    (or_lt 64 (meta_word meta) CHANGING_BIT (meta_word_below meta fits) (omega arith))
     (meta_of-or_changing (meta_word meta) (meta_word_below meta fits)
     ∙ ap (λ (m : Meta). record m { changing = true }) (meta_of-meta_word meta fits))
 
-pub or_pending-meta_word : (meta : Meta) → MetaFits meta → bit_or (meta_word meta) (2 ^ 62) ≡ meta_word (record meta { pending = true })
+pub or_pending-meta_word : (meta : Meta) → MetaFits meta → bit_or (meta_word meta) PENDING_BIT ≡ meta_word (record meta { pending = true })
 or_pending-meta_word meta fits =
-    word_of (bit_or (meta_word meta) (2 ^ 62)) (record meta { pending = true })
-    (or_lt 64 (meta_word meta) (2 ^ 62) (meta_word_below meta fits) (omega arith))
+    word_of (bit_or (meta_word meta) PENDING_BIT) (record meta { pending = true })
+    (or_lt 64 (meta_word meta) PENDING_BIT (meta_word_below meta fits) (omega arith))
     (meta_of-or_pending (meta_word meta) (meta_word_below meta fits)
     ∙ ap (λ (m : Meta). record m { pending = true }) (meta_of-meta_word meta fits))
 
 pub cleared-meta_word : (meta : Meta) → MetaFits meta
-    → bit_and (meta_word meta) (2 ^ 64 - 1 - (2 ^ 63 + (2 ^ 62 - 2 ^ 51))) ≡ meta_word (record meta { changing = false; owner = 0 })
+    → bit_and (meta_word meta) (bit_not w64 OWNER_AND_CHANGING_BITS) ≡ meta_word (record meta { changing = false; owner = 0 })
 cleared-meta_word meta fits =
     let below : meta_word meta < 2 ^ 64 = meta_word_below meta fits in
-    let less = and_le_l (meta_word meta) (2 ^ 64 - 1 - (2 ^ 63 + (2 ^ 62 - 2 ^ 51))) in
-    word_of (bit_and (meta_word meta) (2 ^ 64 - 1 - (2 ^ 63 + (2 ^ 62 - 2 ^ 51)))) (record meta { changing = false; owner = 0 })
+    let less = and_le_l (meta_word meta) (bit_not w64 OWNER_AND_CHANGING_BITS) in
+    word_of (bit_and (meta_word meta) (bit_not w64 OWNER_AND_CHANGING_BITS)) (record meta { changing = false; owner = 0 })
     (omega (arith, less))
     (meta_of-cleared (meta_word meta) below
     ∙ ap (λ (m : Meta). record m { changing = false; owner = 0 }) (meta_of-meta_word meta fits))
@@ -171,7 +172,12 @@ packed_fields meta fits =
 
 -- masked bits are the word's fields
 pub masked_fields : (word : ℕ)
-    → (let m : Meta = record { changing = not (eqb (bit_and word (2 ^ 63)) 0); pending = not (eqb (bit_and word (2 ^ 62)) 0); owner = bit_and (word / 2 ^ 51) (2 ^ 11 - 1); version = bit_and word (2 ^ 51 - 1) } in m) ≡ meta_of word
+    → (let m : Meta = record {
+      changing = not (eqb (bit_and word CHANGING_BIT) 0);
+      pending = not (eqb (bit_and word PENDING_BIT) 0);
+      owner = bit_and (word / 2 ^ 51) MAX_OWNER;
+      version = bit_and word MAX_VERSION;
+    } in m) ≡ meta_of word
 unfolding meta_of
 masked_fields word =
     same_fields _ _ _ _ _ _ _ _ (mask_tests_bit word 63) (mask_tests_bit word 62) (and_mask (word / 2 ^ 51) 11) (and_mask word 51)

@@ -1,6 +1,6 @@
 use Rattle.meta_word.proofs.MetaLemmas.{packed_fields, meta_of-meta_word}
-use Rattle.std.proofs.Common.{◌≡◌, ap, ◌∙◌}
-use Rattle.meta_word.specs.Meta.{meta_of, meta_word}
+use Rattle.std.proofs.Common.{ap, ◌∙◌}
+use Rattle.meta_word.specs.Meta.{meta_of}
 use Rattle.meta_word.proofs.meta.pack_meta.Goals as goal
 
 pub returns-clause-word : goal.returns-clause-word
