@@ -3,10 +3,8 @@ ghost use Rattle.std.specs.Prelude.{◌≡◌, ◌<◌, ◌^◌, length};
 ghost use Rattle.ledger_host.specs.Settings.{default_settings};
 
 use ledger_model::Job;
+use meta_word::MAX_VERSION;
 use stm_model::{Policy, Settings};
-
-// The greatest version that a metadata word holds.
-const CLOCK: u64 = 2_251_799_813_685_247;
 
 const TRIES: u16 = 3;
 
@@ -20,7 +18,7 @@ pub(crate) fn default_settings(job: &Job) -> Settings
         callers: (job.workers.len() as u16).max(1),
         policy: Policy::Look(0),
         tries: TRIES,
-        clock: CLOCK,
+        clock: MAX_VERSION,
         attempts: ATTEMPTS,
     }
 }

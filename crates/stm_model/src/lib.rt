@@ -2,17 +2,16 @@
 #![tactic(auto)]
 
 mod cause;
-mod meta;
 mod pairs;
 mod series;
 mod settings;
 mod values;
 
 pub use cause::{Addr, Cause, HookPhase};
-pub use meta::{Meta, Phase, TxnStatus};
+pub use meta_word::{Meta, Phase, Policy, TxnStatus};
 pub use pairs::Pairs;
 pub use series::{Memory, Series};
-pub use settings::{Policy, Settings};
+pub use settings::Settings;
 pub use values::{Runs, Values, Words};
 
 #[cfg(test)]

@@ -1,15 +1,6 @@
 //! What a table and the attempts on it are set to.
 
-/// What an attempt does where another owns the cell that it is to write.
-#[derive(Clone, Copy, Debug, PartialEq, Eq)]
-pub enum Policy {
-    /// It looks once, and gives way.
-    GiveWay,
-    /// It looks so many times more before it gives way.
-    Look(u16),
-    /// It tries once to doom the owner, and looks so many times more.
-    Doom(u16),
-}
+use crate::Policy;
 
 /// The settings of a table.
 #[derive(Clone, Copy, Debug, PartialEq, Eq)]

@@ -1,0 +1,85 @@
+//! A cell's metadata word. It stands beside the word with the cell's value, begins as 0, and says
+//! who may write the cell and which committed write its value is from.
+//!
+//! | bits | field | set | cleared |
+//! |---|---|---|---|
+//! | 63 | changing | by the owner, in a commit, before it loads the clock | with the owner |
+//! | 62 | pending | by any caller that is to wait, at any time | with a new version |
+//! | 51 to 61 | owner | by a caller, to its own number, before its first write of the cell, where nobody owns it | by the owner, once the write is committed, undone or rolled back |
+//! | 0 to 50 | version | by the owner, to its stamp, once the cell's new value is stored | never |
+//!
+//! The word is changed by one access at a time:
+//! - to take the cell is to exchange the word that was loaded for the same with an owner;
+//! - to mark it is to set the changing bit, and to wait is to set the pending bit;
+//! - to give it back is to clear the owner's bits and the changing bit;
+//! - to release it is to swap in the new version, with every other bit 0.
+//!
+//! Where the word that was given back or released was pending, that caller rings for those who wait.
+
+ghost use Rattle.std.specs.Prelude.{◌≡◌};
+ghost use Rattle.meta_word.specs.Meta.{MetaFits, meta_of, meta_word};
+
+// Where the fields begin. The version begins at bit 0.
+const OWNER_AT: u32 = 51;
+
+const PENDING_AT: u32 = 62;
+
+const CHANGING_AT: u32 = 63;
+
+/// The greatest number that an owner may have: callers are numbered from 1.
+pub const MAX_OWNER: u16 = (1 << (PENDING_AT - OWNER_AT)) - 1;
+
+/// The greatest version, and so the greatest value that the clock may have.
+pub const MAX_VERSION: u64 = (1 << OWNER_AT) - 1;
+
+/// The pending bit, which is set to wait.
+pub const PENDING_BIT: u64 = 1 << PENDING_AT;
+
+/// The changing bit, which is set to mark a cell.
+pub const CHANGING_BIT: u64 = 1 << CHANGING_AT;
+
+/// The owner's bits and the changing bit, which are cleared to give a cell back.
+pub const OWNER_AND_CHANGING_BITS: u64 = CHANGING_BIT | ((MAX_OWNER as u64) << OWNER_AT);
+
+/// A cell's metadata word, unpacked.
+#[derive(Clone, Copy, Debug, PartialEq, Eq)]
+pub struct Meta {
+    /// The owner is about to store the cell's new value, and until it has, no other caller reads the
+    /// cell. Set only with an owner, and only once its attempt can't be doomed any more.
+    pub changing: bool,
+    /// Somebody waits for the cell to change or to be released. It says nothing of the cell itself,
+    /// and stays where the cell is taken, marked or given back.
+    pub pending: bool,
+    /// The caller that may write the cell, or 0 for nobody. While the cell is owned, all but the
+    /// pending bit is the owner's alone to change. Others may read the cell until it is changing.
+    pub owner: u16,
+    /// The stamp of the last committed write of the cell, or 0 where there is none. It only rises,
+    /// and wherever the word isn't changing, the cell's value is that write's.
+    pub version: u64,
+}
+
+/// The word of these fields.
+pub fn pack_meta(meta: Meta) -> u64
+    requires { MetaFits meta }
+    ensures word { result ≡ meta_word meta }
+    ensures comes_back { meta_of result ≡ meta }
+{
+    (u64::from(meta.changing) << CHANGING_AT)
+        | (u64::from(meta.pending) << PENDING_AT)
+        | (u64::from(meta.owner) << OWNER_AT)
+        | meta.version
+}
+
+/// The fields of this word. Every word has some.
+pub fn unpack_meta(word: u64) -> Meta
+    ensures fields { result ≡ meta_of word }
+    ensures fits { MetaFits result }
+    ensures comes_back { meta_word result ≡ word }
+{
+    Meta {
+        changing: word & CHANGING_BIT != 0,
+        pending: word & PENDING_BIT != 0,
+        owner: ((word >> OWNER_AT) & u64::from(MAX_OWNER)) as u16,
+        version: word & MAX_VERSION,
+    }
+}
