@@ -125,3 +125,41 @@ impl Bell for KeptCalls {
         self.rings.push(u64::from(addr.0));
     }
 }
+
+#[cfg(test)]
+mod tests {
+    use super::*;
+    use crate::Quiet;
+    use std::test::Fail;
+
+    // A run, and a ring for each of these cells.
+    fn call_all<C: Hooks + Bell>(calls: &mut C, token: u64, addrs: [Addr; 2]) {
+        calls.run(HookPhase::Commit, token);
+        for addr in addrs {
+            calls.ring(addr);
+        }
+    }
+
+    #[test]
+    fn calls_are_kept_up_to_the_room(rt: HostRuntime) -> Result<(), Fail> {
+        let mut kept = KeptCalls::new(rt.alloc(), 2, 3)?;
+        assert_eq!(rt; kept.runs(), Some([].as_slice()));
+        call_all(&mut kept, 7, [Addr(5), Addr(1)]);
+        assert_eq!(rt; kept.runs(), Some([(HookPhase::Commit, 7)].as_slice()));
+        assert_eq!(rt; kept.rings(), Some([5, 1].as_slice()));
+        call_all(&mut kept, 8, [Addr(2), Addr(4)]);
+        assert_eq!(rt;
+            kept.runs(),
+            Some([(HookPhase::Commit, 7), (HookPhase::Commit, 8)].as_slice())
+        );
+        assert_eq!(rt; kept.rings(), None);
+        call_all(&mut kept, 9, [Addr(0), Addr(0)]);
+        assert_eq!(rt; kept.runs(), None);
+        Ok(())
+    }
+
+    #[test]
+    fn quiet_takes_every_call() {
+        call_all(&mut Quiet, 1, [Addr(1), Addr(2)]);
+    }
+}

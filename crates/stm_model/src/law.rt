@@ -14,7 +14,8 @@ pub trait Law {
     ghost may_refl: { (law : Self) (heap : List ℕ) → may law heap heap };
 
     /// What may be done in two steps may be done in one.
-    ghost may_trans: { (law : Self) (first second third : List ℕ) → may law first second → may law second third → may law first third };
+    ghost may_trans: { (law : Self) (first second third : List ℕ) →
+        may law first second → may law second third → may law first third };
 }
 
 /// The law that allows every heap and every change.
