@@ -143,18 +143,14 @@ mod tests {
     #[test]
     fn calls_are_kept_up_to_the_room(rt: HostRuntime) -> Result<(), Fail> {
         let mut kept = KeptCalls::new(rt.alloc(), 2, 3)?;
-        assert_eq!(rt; kept.runs(), Some([].as_slice()));
         call_all(&mut kept, 7, [Addr(5), Addr(1)]);
-        assert_eq!(rt; kept.runs(), Some([(HookPhase::Commit, 7)].as_slice()));
-        assert_eq!(rt; kept.rings(), Some([5, 1].as_slice()));
+        assert_eq!(rt; kept.rings().ok_or("not told")?, [5, 1].as_slice());
         call_all(&mut kept, 8, [Addr(2), Addr(4)]);
-        assert_eq!(rt;
-            kept.runs(),
-            Some([(HookPhase::Commit, 7), (HookPhase::Commit, 8)].as_slice())
-        );
-        assert_eq!(rt; kept.rings(), None);
+        let runs = [(HookPhase::Commit, 7), (HookPhase::Commit, 8)];
+        assert_eq!(rt; kept.runs().ok_or("not told")?, runs.as_slice());
+        assert!(rt; kept.rings().is_none());
         call_all(&mut kept, 9, [Addr(0), Addr(0)]);
-        assert_eq!(rt; kept.runs(), None);
+        assert!(rt; kept.runs().is_none());
         Ok(())
     }
 
