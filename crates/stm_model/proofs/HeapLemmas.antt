@@ -1,5 +1,5 @@
 -- What writes make of a heap, and what putting a write into a list of them does.
-use Rattle.std.proofs.Common.{◌≡◌, ℕ, ◌^◌, ◌<◌, Bool, true, false, nat_eq, ◌||◌, cond, List, [], ◌∷◌, length, get_or, set, Option, Some, None, is_some, refl, sym, ap, ◌∙◌, ◌≢◌, inl, inr, arith, length-set}
+use Rattle.std.proofs.Common.{◌≡◌, ℕ, ◌^◌, ◌<◌, Bool, false, nat_eq, ◌||◌, cond, List, [], ◌∷◌, length, get_or, set, Option, Some, is_some, refl, sym, ap, ◌∙◌, ◌≢◌, inl, inr, arith, length-set}
 use Rattle.std.specs.List.{AllByRecursion, IsDistinct}
 use Rattle.std.specs.Map.{keys_of, lookup, values_of}
 use Rattle.std.proofs.lemmas.Bool.Decides.{eqb_tells, nat_tests}

@@ -1,8 +1,8 @@
 //! Handlers' runs and rings as lists, in memory that was taken beforehand.
-ghost use Rattle.std.specs.Prelude.{◌≡◌, ◌≤◌, [], None, Some, false, length, vec_capacity, if◌then◌else◌, IfOk};
+ghost use Rattle.std.specs.Prelude.{◌≡◌, ◌≤◌, [], false, length, vec_capacity, IfOk};
 ghost use Rattle.std.specs.Option.{option_copied};
 ghost use Rattle.stm_model.specs.Calls.{TellsNext, after_call};
-ghost use Rattle.stm_model.specs.KeptCalls.{no_calls};
+ghost use Rattle.stm_model.specs.KeptCalls.{no_calls, told};
 
 use crate::{Addr, Bell, HookPhase, Hooks, Memory};
 use std::alloc::Global;
@@ -35,8 +35,8 @@ impl<T: Copy> Roomy<T> {
     /// Takes no memory.
     fn push(&mut self, entry: T)
         ensures room { self.new.room ≡ self.old.room }
-        ensures list { (if self.new.overrun then None else Some self.new.entries.items) ≡
-            after_call self.old.room (if self.old.overrun then None else Some self.old.entries.items) entry }
+        ensures list { told self.new.overrun self.new.entries.items ≡
+            after_call self.old.room (told self.old.overrun self.old.entries.items) entry }
     {
         if self.entries.len() < self.room {
             self.entries.push(entry).unwrap();
@@ -46,7 +46,7 @@ impl<T: Copy> Roomy<T> {
     }
 
     fn as_slice(&self) -> Option<&[T]>
-        ensures { option_copied result ≡ (if self.now.overrun then None else Some self.now.entries.items) }
+        ensures { option_copied result ≡ told self.now.overrun self.now.entries.items }
     {
         if self.overrun {
             None
@@ -65,15 +65,14 @@ pub struct KeptCalls {
 }
 
 impl Model for KeptCalls {
-    ghost use Rattle.std.specs.Prelude.{None, Some, if◌then◌else◌};
-    ghost use Rattle.stm_model.specs.KeptCalls.{CallLists};
+    ghost use Rattle.stm_model.specs.KeptCalls.{CallLists, told};
 
     ghost Value = { CallLists };
 
     ghost view = { λ k. record {
-      runs = if k.runs.overrun then None else Some k.runs.entries.items;
+      runs = told k.runs.overrun k.runs.entries.items;
       run_room = k.runs.room;
-      rings = if k.rings.overrun then None else Some k.rings.entries.items;
+      rings = told k.rings.overrun k.rings.entries.items;
       ring_room = k.rings.room;
     } };
 }

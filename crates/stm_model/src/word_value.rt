@@ -64,7 +64,10 @@ impl WordValue for bool {
 
     ghost value_of = { bool_value };
 
-    ghost is_its_word = { λ word. elim [ false ↦ λ is. Prim.grind (arith, nat_tests) | true ↦ λ is. Prim.grind (arith, nat_tests) ] };
+    ghost is_its_word = { λ word. elim [
+      | false ↦ λ is. Prim.grind (arith, nat_tests)
+      | true ↦ λ is. Prim.grind (arith, nat_tests)
+    ] };
 
     fn to_word(self) -> u64 {
         u64::from(self)
