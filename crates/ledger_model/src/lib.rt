@@ -2,14 +2,13 @@
 #![tactic(auto)]
 
 mod job;
-mod laws;
+pub mod laws;
 mod listing;
 mod reason;
 mod rows;
 mod script;
 
 pub use job::{Contents, Job, Openings, PairLists, Scripts, Steps, Workers};
-pub use laws::{hashes_spread_upwards, statements_do_their_steps};
 pub use listing::{Listing, Names, Rolled, RolledList, Row, RowResult};
 pub use reason::Reason;
 pub use rows::Rows;

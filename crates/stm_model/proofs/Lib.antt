@@ -1,1 +1,4 @@
 pub mod Ascending
+pub mod HeapLemmas
+pub mod HistoryLemmas
+pub mod OwesLemmas

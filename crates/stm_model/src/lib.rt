@@ -1,18 +1,35 @@
 //! The types that every crate of the transactional memory speaks of, and its list types.
 #![tactic(auto)]
 
+mod access;
+mod calls;
 mod cause;
+mod kept_calls;
+mod law;
+pub mod laws;
+mod marks;
+mod note;
+mod notes;
 mod pairs;
 mod series;
 mod settings;
 mod values;
+mod word_value;
 
+pub use access::{Access, Ask, Word};
+pub use calls::{Bell, Hooks, Quiet};
 pub use cause::{Addr, Cause, HookPhase};
+pub use kept_calls::KeptCalls;
+pub use law::{Free, Law};
+pub use marks::{Level, WriteMark};
 pub use meta_word::{Meta, Phase, Policy, TxnStatus};
+pub use note::Note;
+pub use notes::Notes;
 pub use pairs::Pairs;
 pub use series::{Memory, Series};
 pub use settings::Settings;
 pub use values::{Runs, Values, Words};
+pub use word_value::WordValue;
 
 #[cfg(test)]
 mod tests;
