@@ -56,8 +56,8 @@ impl<T: Copy> Roomy<T> {
     }
 }
 
-/// Keeps the runs and the rings, as many of each as it was made for. Once a call has gone past the
-/// room of its list, it tells that list no more.
+/// Keeps runs and rings, as many of each as it was made for. A run too many ends its list of runs, and
+/// a ring too many its list of rings.
 #[derive(Debug, Drop)]
 pub struct KeptCalls {
     runs: Roomy<(HookPhase, u64)>,
@@ -88,14 +88,14 @@ impl KeptCalls {
         })
     }
 
-    /// The runs, each with its phase and its token. None after a run past the room.
+    /// The runs, each with its phase and its token. None once there was one too many.
     pub fn runs(&self) -> Option<&[(HookPhase, u64)]>
         ensures { option_copied result ≡ self.now.runs }
     {
         self.runs.as_slice()
     }
 
-    /// The numbers of the cells rung for. None after a ring past the room.
+    /// The numbers of the cells rung for. None once there was one too many.
     pub fn rings(&self) -> Option<&[u64]>
         ensures { option_copied result ≡ self.now.rings }
     {
