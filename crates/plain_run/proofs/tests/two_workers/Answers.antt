@@ -14,6 +14,7 @@ returns-clause-fits c =
       snaps = lit≤ tt;
       blocks = lit≤ tt;
       openings = tt;
+      opened = tt;
       workers = lit≤ tt;
       scripts = ((lit≤ tt, (c.in_ok-adds.ensures.fits 1 (lit< tt), tt)), ((lit≤ tt, (c.in_ok-adds-2.ensures.fits 1 (lit< tt), tt)), tt));
       steps = lit≤ tt;
