@@ -27,7 +27,7 @@ pub enum Phase {
     Idle,
     /// Its body runs, and another caller may doom it.
     Active,
-    /// It commits what it wrote, and can't be doomed any more.
+    /// It is about to commit what it wrote, and can't be doomed any more.
     Preparing,
     /// Another caller wants a cell that it owns. It won't commit a write.
     Doomed,
