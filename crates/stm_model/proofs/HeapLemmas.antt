@@ -37,10 +37,10 @@ AreWords-over heap (write ∷ writes) words written =
 pub over-put : (heap : List ℕ) (writes : List (ℕ × ℕ)) (address value : ℕ) → over heap (put writes address value) ≡ set (over heap writes) address value
 over-put heap [] address value = refl
 over-put heap (write ∷ writes) address value = elim (eqb_tells write.0 address) [
-    | inl same ↦ rw same.0 (rw same.1 (sym (set-set (over heap writes) address write.1 value)))
-    | inr other ↦ rw other.0 (ap (λ h. set h write.0 write.1) (over-put heap writes address value)
-        ∙ set_comm (over heap writes) address write.0 value write.1 (λ is. other.1 (sym is)))
-  ]
+  | inl same ↦ rw same.0 (rw same.1 (sym (set-set (over heap writes) address write.1 value)))
+  | inr other ↦ rw other.0 (ap (λ h. set h write.0 write.1) (over-put heap writes address value)
+      ∙ set_comm (over heap writes) address write.0 value write.1 (λ is. other.1 (sym is)))
+]
 
 -- a key that is none of them is none of them with another one
 apart-put : (key : ℕ) (writes : List (ℕ × ℕ)) (address value : ℕ) → nat_eq key address ≡ false
@@ -48,17 +48,17 @@ apart-put : (key : ℕ) (writes : List (ℕ × ℕ)) (address value : ℕ) → n
     → AllByRecursion (λ other. nat_eq key other ≡ false) (keys_of (put writes address value))
 apart-put key [] address value apart others = (apart, tt)
 apart-put key (write ∷ writes) address value apart others = elim (eqb_tells write.0 address) [
-    | inl same ↦ rw same.0 (apart, others.1)
-    | inr other ↦ rw other.0 (others.0, apart-put key writes address value apart others.1)
-  ]
+  | inl same ↦ rw same.0 (apart, others.1)
+  | inr other ↦ rw other.0 (others.0, apart-put key writes address value apart others.1)
+]
 
 pub IsDistinct-put : (writes : List (ℕ × ℕ)) (address value : ℕ) → IsDistinct nat_eq (keys_of writes) → IsDistinct nat_eq (keys_of (put writes address value))
 unfolding IsDistinct
 IsDistinct-put [] address value apart = (tt, tt)
 IsDistinct-put (write ∷ writes) address value apart = elim (eqb_tells write.0 address) [
-    | inl same ↦ rw same.0 (rw (← same.1) apart)
-    | inr other ↦ rw other.0 (apart-put write.0 writes address value other.0 apart.0, IsDistinct-put writes address value apart.1)
-  ]
+  | inl same ↦ rw same.0 (rw (← same.1) apart)
+  | inr other ↦ rw other.0 (apart-put write.0 writes address value other.0 apart.0, IsDistinct-put writes address value apart.1)
+]
 
 pub AreWords-put : (writes : List (ℕ × ℕ)) (address value : ℕ) → AreWords (values_of writes) → value < 2 ^ 64 → AreWords (values_of (put writes address value))
 AreWords-put [] address value words fits = All-cons (λ number. number < 2 ^ 64) value [] fits (All-nil (λ number. number < 2 ^ 64))

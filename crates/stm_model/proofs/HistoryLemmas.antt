@@ -63,27 +63,27 @@ last_below history (suc n) address = below_step n _ _ _ (last_below history n ad
 pub last_writes : (history : List Entry) (n address : ℕ) → last history n address ≢ 0 → writes_to (entry_after history (last history n address - 1)).writes address ≡ true
 last_writes history zero address some = absurd (some (last-zero history address))
 last_writes history (suc n) address some = elim (last_cases history n address) [
-    | inl written ↦
+  | inl written ↦
       let here : last history (suc n) address - 1 ≡ n = omega (arith, written.1) in
       rw here written.0
-    | inr other ↦ rw other.1 (last_writes history n address (λ none. some (other.1 ∙ none)))
-  ]
+  | inr other ↦ rw other.1 (last_writes history n address (λ none. some (other.1 ∙ none)))
+]
 
 -- and no later one does
 none_step : (history : List Entry) (n address k : ℕ) → writes_to (entry_after history n).writes address ≡ false → k ≤ n
     → (k < n → writes_to (entry_after history k).writes address ≡ false)
     → writes_to (entry_after history k).writes address ≡ false
 none_step history n address k none below before = elim (cases_lt k n) [
-    | inl less ↦ before less
-    | inr more ↦ let here : k ≡ n = omega arith in rw here none
-  ]
+  | inl less ↦ before less
+  | inr more ↦ let here : k ≡ n = omega arith in rw here none
+]
 
 pub none_after_last : (history : List Entry) (n address k : ℕ) → last history n address ≤ k → k < n → writes_to (entry_after history k).writes address ≡ false
 none_after_last history zero address k from below = absurd (omega arith)
 none_after_last history (suc n) address k from below = elim (last_cases history n address) [
-    | inl written ↦ absurd (omega (arith, written.1))
-    | inr other ↦ none_step history n address k other.0 (omega arith) (λ less. none_after_last history n address k (omega (arith, other.1)) less)
-  ]
+  | inl written ↦ absurd (omega (arith, written.1))
+  | inr other ↦ none_step history n address k other.0 (omega arith) (λ less. none_after_last history n address k (omega (arith, other.1)) less)
+]
 
 -- ---- between a cell's last writer and a place
 
@@ -95,27 +95,27 @@ IsSame opening history m n address =
 same_step : (opening : List ℕ) (history : List Entry) (n k address : ℕ) → last history (suc n) address ≤ n → (last history n address ≤ k → IsSame opening history k n address)
     → last history (suc n) address ≤ k → IsSame opening history k (suc n) address
 same_step opening history n k address early before from = elim (last_cases history n address) [
-    | inl written ↦ absurd (omega (arith, written.1))
-    | inr other ↦
+  | inl written ↦ absurd (omega (arith, written.1))
+  | inr other ↦
       let same : IsSame opening history k n address = before (omega (arith, other.1)) in
       (same.0 ∙ sym other.1, same.1 ∙ sym (state_other opening history n address other.0))
-  ]
+]
 
 -- Nothing becomes of the cell from its last writer on.
 pub same_since_last : (opening : List ℕ) (history : List Entry) (n k address : ℕ) → k ≤ n → last history n address ≤ k → IsSame opening history k n address
 same_since_last opening history zero k address below from = let here : k ≡ 0 = omega arith in rw here (refl, refl)
 same_since_last opening history (suc n) k address below from = elim (cases_lt n k) [
-    | inl more ↦ let here : k ≡ suc n = omega arith in rw here (refl, refl)
-    | inr less ↦ same_step opening history n k address (omega arith) (λ since. same_since_last opening history n k address less since) from
-  ]
+  | inl more ↦ let here : k ≡ suc n = omega arith in rw here (refl, refl)
+  | inr less ↦ same_step opening history n k address (omega arith) (λ since. same_since_last opening history n k address less since) from
+]
 
 -- one last writer, one word
 pub same_from_last : (opening : List ℕ) (history : List Entry) (m n address : ℕ) → last history m address ≡ last history n address
     → get_or (state opening history m) address 0 ≡ get_or (state opening history n) address 0
 same_from_last opening history m n address same = elim (cases_lt n m) [
-    | inl more ↦ sym (same_since_last opening history m n address (omega arith) (omega (arith, last_below history n address))).1
-    | inr less ↦ (same_since_last opening history n m address less (omega (arith, last_below history m address))).1
-  ]
+  | inl more ↦ sym (same_since_last opening history m n address (omega arith) (omega (arith, last_below history n address))).1
+  | inr less ↦ (same_since_last opening history n m address less (omega (arith, last_below history m address))).1
+]
 
 pub IsCurrent-moved : (opening : List ℕ) (history : List Entry) (m n : ℕ) (note : Note) → IsCurrent opening history m note
     → note.version ≡ last history n note.addr.0 → IsCurrent opening history n note
@@ -180,10 +180,11 @@ IsLegal-front opening history more legal = record {
   opening_words = legal.opening_words;
   entries = All-front history more legal.entries;
   reads = λ n within k d there.
-    IsCurrent-front opening history more n _ (omega arith)
-    (AllCurrent-at opening (history ++ more) n (entry_after history n) (entry_after (history ++ more) n) (sym (entry_after-append history more n within))
-    (legal.reads n (omega (arith, length-append history more))) k d there);
+      IsCurrent-front opening history more n _ (omega arith)
+      (AllCurrent-at opening (history ++ more) n (entry_after history n) (entry_after (history ++ more) n) (sym (entry_after-append history more n within))
+      (legal.reads n (omega (arith, length-append history more))) k d there);
 }
+
 pub IsLegal-push : (opening : List ℕ) (history : List Entry) (entry : Entry) → IsLegal opening history → IsEntry entry
     → All (IsCurrent opening history (length history)) entry.reads → IsLegal opening (history ++ entry ∷ [])
 IsLegal-push opening history entry legal is_entry current = record {
@@ -191,24 +192,24 @@ IsLegal-push opening history entry legal is_entry current = record {
   entries = All-push IsEntry history entry legal.entries is_entry;
   reads = λ n within. elim (cases_lt n (length history)) [
     | inl less ↦ λ k d there.
-      IsCurrent-append opening history (entry ∷ []) n _ (omega arith)
-      (AllCurrent-at opening history n (entry_after (history ++ entry ∷ []) n) (entry_after history n) (entry_after-append history (entry ∷ []) n less)
-      (legal.reads n less) k d there)
+        IsCurrent-append opening history (entry ∷ []) n _ (omega arith)
+        (AllCurrent-at opening history n (entry_after (history ++ entry ∷ []) n) (entry_after history n) (entry_after-append history (entry ∷ []) n less)
+        (legal.reads n less) k d there)
     | inr more ↦
-      let here : length history ≡ n = omega (arith, length-append history (entry ∷ [])) in
-      λ k d there.
-      IsCurrent-append opening history (entry ∷ []) n _ (omega arith)
-      (AllCurrent-at opening history n (entry_after (history ++ entry ∷ []) n) entry (entry_after_push history entry n here)
-      (subst (λ m. All (IsCurrent opening history m) entry.reads) here current) k d there)
+        let here : length history ≡ n = omega (arith, length-append history (entry ∷ [])) in
+        λ k d there.
+        IsCurrent-append opening history (entry ∷ []) n _ (omega arith)
+        (AllCurrent-at opening history n (entry_after (history ++ entry ∷ []) n) entry (entry_after_push history entry n here)
+        (subst (λ m. All (IsCurrent opening history m) entry.reads) here current) k d there)
   ];
 }
 
 -- what the entries write are words
 written_words : (history : List Entry) (n : ℕ) → All IsEntry history → AreWords (values_of (entry_after history n).writes)
 written_words history n entries = elim (cases_lt n (length history)) [
-    | inl less ↦ (entries n no_entry less).words
-    | inr past ↦ rw (get_or_past history n no_entry past) (All-nil (λ number. number < 2 ^ 64))
-  ]
+  | inl less ↦ (entries n no_entry less).words
+  | inr past ↦ rw (get_or_past history n no_entry past) (All-nil (λ number. number < 2 ^ 64))
+]
 
 pub AreWords-state : (opening : List ℕ) (history : List Entry) (n : ℕ) → AreWords opening → All IsEntry history → AreWords (state opening history n)
 AreWords-state opening history zero words entries = rw (state-zero opening history) words

@@ -22,11 +22,7 @@ pub enum Access {
     Store(Word, u64),
     Swap(Word, u64),
     /// Puts `new` where it finds `old`, and else nothing.
-    Exchange {
-        word: Word,
-        old: u64,
-        new: u64,
-    },
+    Exchange { word: Word, old: u64, new: u64 },
     /// Sets the bits of the mask.
     SetBits(Word, u64),
     /// Clears the bits of the mask.
