@@ -6,3 +6,7 @@ pub mod KeptCalls
 pub mod Heap
 pub mod History
 pub mod Owes
+pub mod CellsState
+pub mod Refusing
+pub mod Telling
+pub mod Ran

@@ -2,8 +2,10 @@
 #![tactic(auto)]
 
 mod access;
+mod body;
 mod calls;
 mod cause;
+mod cells;
 mod kept_calls;
 mod law;
 pub mod laws;
@@ -17,8 +19,10 @@ mod values;
 mod word_value;
 
 pub use access::{Access, Ask, Word};
+pub use body::{Body, Choices};
 pub use calls::{Bell, Hooks, Quiet};
 pub use cause::{Addr, Cause, HookPhase};
+pub use cells::Cells;
 pub use kept_calls::KeptCalls;
 pub use law::{Free, Law};
 pub use marks::{Level, WriteMark};

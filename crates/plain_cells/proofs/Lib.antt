@@ -1,0 +1,4 @@
+pub mod Writes
+pub mod Nested
+pub mod Notes
+pub mod Fronts

@@ -1,0 +1,32 @@
+use Rattle.std.proofs.Common.{◌≡◌, ◌+◌, ◌++◌, ◌∷◌, [], length, rules, arith, ap, subst, sym, ◌∙◌, length-append}
+use Rattle.stm_model.specs.CellsState.{Book}
+use Rattle.plain_cells.specs.Levels.{Nest}
+use Rattle.plain_cells.proofs.Nested.{Nest-more}
+use Rattle.plain_cells.proofs.cells.PlainCellsCells.hook.Goals as goal
+
+pub invariant_of-self : goal.invariant_of-self
+invariant_of-self g c = let cells = c.args.self.now in
+    let same : length c.add_hook.new.book.hooks.items ≡ length cells.book.hooks.items = ap (λ (b : Book). length b.hooks) c.in-Err.ensures.err in record {
+      short = cells.short;
+      words = cells.words;
+      keeps_law = cells.keeps_law;
+      agrees = cells.agrees;
+      room = c.in-Err.ensures.room;
+      depth = cells.depth;
+      nested = Nest-more _ _ cells.saved.items (omega arith) cells.nested;
+      answer = tt;
+    }
+
+pub invariant_of-self-in_default-add_hook : goal.invariant_of-self-in_default-add_hook
+invariant_of-self-in_default-add_hook g c = let cells = c.args.self.now in
+    let more : length c.add_hook.new.book.hooks.items ≡ length cells.book.hooks.items + 1 =
+    ap (λ (b : Book). length b.hooks) c.in_default-add_hook.ensures.ok ∙ length-append cells.book.hooks.items ((c.args.phase, c.args.token) ∷ []) in record {
+      short = cells.short;
+      words = cells.words;
+      keeps_law = cells.keeps_law;
+      agrees = cells.agrees;
+      room = c.in_default-add_hook.ensures.room;
+      depth = cells.depth;
+      nested = Nest-more _ _ cells.saved.items (omega (arith, more)) cells.nested;
+      answer = cells.answer;
+    }

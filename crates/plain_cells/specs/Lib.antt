@@ -1,0 +1,3 @@
+pub mod Book
+pub mod Levels
+pub mod Facts
