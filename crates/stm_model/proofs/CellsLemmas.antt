@@ -1,16 +1,15 @@
 -- States of cells: what is possible later was possible before, and what a single call makes of them.
-use Rattle.std.proofs.Common.{◌≡◌, ℕ, ◌+◌, ◌-◌, ◌≤◌, Bool, true, false, cond, nat_eq, List, [], ◌∷◌, ◌++◌, length, drop, set, Option, Some, None, refl, sym, ap, subst, ◌∙◌, ◌≢◌, inl, inr, arith, length-append, append_assoc}
+use Rattle.std.proofs.Common.{◌≡◌, ℕ, ◌+◌, ◌-◌, ◌≤◌, Bool, true, false, cond, nat_eq, List, [], ◌∷◌, ◌++◌, length, Option, Some, None, refl, sym, ap, subst, ◌∙◌, arith, length-append, append_assoc}
 use Rattle.std.specs.Coded.{Unit-prop}
 use Rattle.std.proofs.Math.Nat.{ℕ_set}
 use Rattle.std.proofs.lemmas.List.{append-nil}
-use Rattle.std.specs.Option.{IfSome}
 use Rattle.stm_model.specs.declared.cause.Cause.{Cause}
 use Rattle.stm_model.specs.declared.cause.Cause.TheVariants.{ReadConflict, Moved, Stale, WriteConflict, Doomed, ClockMoved, ClockEnd, Retry, User, Full, TooDeep, AttemptsEnd, Memory}
 use Rattle.stm_model.specs.declared.note.Note.{Note}
-use Rattle.stm_model.specs.Heap.{Agrees, put}
+use Rattle.stm_model.specs.Heap.{put}
 use Rattle.stm_model.specs.Owes.{IsPossible, Owes}
 use Rattle.stm_model.specs.CellsState.{Book, CellsState, outer, restored, restored_unless}
-use Rattle.stm_model.specs.Refusing.{IsOfCells, RefusesRead, RefusesWrite, RefusesLevel}
+use Rattle.stm_model.specs.Refusing.{IsOfCells, RefusesRead}
 use Rattle.stm_model.specs.Telling.{Extends}
 use Rattle.stm_model.proofs.OwesLemmas.{IsPossible-front}
 
@@ -106,4 +105,4 @@ length_put_step false old new writes puts most = omega arith
 
 pub length-put : (writes : List (ℕ × ℕ)) (address value : ℕ) → length (put writes address value) ≤ length writes + 1
 length-put [] address value = omega arith
-length-put (write ∷ writes) address value = length_put_step (nat_eq write.0 address) write (address, value) writes (put writes address value) (length-put writes address value)
+length-put (write ∷ writes) address value = length_put_step (nat_eq address write.0) write (address, value) writes (put writes address value) (length-put writes address value)

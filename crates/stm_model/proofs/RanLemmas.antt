@@ -1,13 +1,12 @@
 -- What is promised of a body that is made of calls and of other bodies.
-use Rattle.std.proofs.Common.{◌≡◌, ℕ, ◌+◌, ◌-◌, ◌<◌, ◌≤◌, List, [], ◌∷◌, ◌++◌, length, drop, Option, Some, None, refl, sym, ap, subst, ◌∙◌, inl, inr, arith}
+use Rattle.std.proofs.Common.{◌≡◌, ℕ, List, [], ◌∷◌, length, drop, Some, None, sym, ap, subst, ◌∙◌, inr, arith}
 use Rattle.std.specs.Prelude.{Result, Ok, Err, IfOk, IfErr, ◌⊎◌}
 use Rattle.stm_model.specs.declared.cause.Cause.{Cause}
 use Rattle.stm_model.specs.Owes.{IsPossible, Owes}
-use Rattle.stm_model.specs.CellsState.{Book, CellsState, entered, kept, undone, outer, restored, restored_unless, undoing}
-use Rattle.stm_model.specs.Telling.{Extends, Owing, Enters, Refused, Leads}
+use Rattle.stm_model.specs.CellsState.{Book, CellsState, entered, kept, undone, outer, restored, undoing}
+use Rattle.stm_model.specs.Telling.{Owing, Enters, Refused, Leads}
 use Rattle.stm_model.specs.Ran.{Grows, IsDecided, IsOfBody, Ran}
 use Rattle.stm_model.proofs.CellsLemmas.{Extends-refl, Extends-same, Extends-append, Extends-trans, IsPossible-before, Owes-later, none_before, length-outer, restored-going}
-use Rattle.stm_model.proofs.TellingLemmas.{leads_then}
 
 pub Grows-refl : (book : Book) → Grows book book
 Grows-refl book = record { hooks = Extends-refl book.hooks; laters = Extends-refl book.laters; runs = Extends-refl book.runs }
