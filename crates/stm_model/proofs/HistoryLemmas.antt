@@ -1,5 +1,5 @@
 -- How heaps and last writers go along a history.
-use Rattle.std.proofs.Common.{◌≡◌, ℕ, zero, suc, ◌+◌, ◌-◌, ◌<◌, ◌≤◌, ◌^◌, Bool, true, false, cond, List, [], ◌∷◌, ◌++◌, length, get_or, refl, sym, ap, ◌∙◌, ◌≢◌, ◌⊎◌, inl, inr, arith, subst, length-append}
+use Rattle.std.proofs.Common.{◌≡◌, ℕ, zero, suc, ◌-◌, ◌<◌, ◌≤◌, ◌^◌, Bool, true, false, cond, List, [], ◌∷◌, ◌++◌, length, get_or, refl, sym, ap, ◌∙◌, ◌≢◌, ◌⊎◌, inl, inr, arith, subst, length-append}
 use Rattle.std.specs.List.{All}
 use Rattle.std.specs.Map.{values_of}
 use Rattle.std.proofs.lemmas.Bool.{cases_lt}
@@ -149,6 +149,25 @@ last-append history more (suc n) address within =
     let less : n < length history = omega arith in
     rw (last-suc (history ++ more) n address, last-suc history n address, entry_after-append history more n less)
     (ap (λ before. cond (writes_to (entry_after history n).writes address) (suc n) before) (last-append history more n address (omega arith)))
+
+-- the heap and the last writers after a new entry
+pub state_push : (opening : List ℕ) (history : List Entry) (entry : Entry)
+    → state opening (history ++ entry ∷ []) (suc (length history)) ≡ over (state opening history (length history)) entry.writes
+state_push opening history entry =
+    rw (
+      state-suc opening (history ++ entry ∷ []) (length history),
+      entry_after_push history entry (length history) refl,
+      state-append opening history (entry ∷ []) (length history) (omega arith),
+    ) refl
+
+pub last_push : (history : List Entry) (entry : Entry) (address : ℕ)
+    → last (history ++ entry ∷ []) (suc (length history)) address ≡ cond (writes_to entry.writes address) (suc (length history)) (last history (length history) address)
+last_push history entry address =
+    rw (
+      last-suc (history ++ entry ∷ []) (length history) address,
+      entry_after_push history entry (length history) refl,
+      last-append history (entry ∷ []) (length history) address (omega arith),
+    ) refl
 
 -- what is current at a place within a history is so whatever comes at its end, and the other way round
 pub IsCurrent-append : (opening : List ℕ) (history more : List Entry) (n : ℕ) (note : Note) → n ≤ length history

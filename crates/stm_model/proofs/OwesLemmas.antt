@@ -1,5 +1,5 @@
 -- When writes meet what is owed.
-use Rattle.std.proofs.Common.{◌≡◌, ℕ, ◌<◌, List, [], ◌∷◌, ◌++◌, length, get_or, arith, length-append}
+use Rattle.std.proofs.Common.{ℕ, ◌<◌, List, [], ◌++◌, length, arith, length-append}
 use Rattle.std.proofs.lemmas.List.{get_or_append_left}
 use Rattle.stm_model.specs.declared.note.Note.{Note}
 use Rattle.stm_model.specs.Heap.{Agrees}

@@ -26,23 +26,23 @@ no_entry = record { caller = 0; serial = 0; reads = []; writes = [] }
 abbrev pub entry_after : List Entry → ℕ → Entry
 entry_after history n = slice_index_or history n no_entry
 
--- the heap after the first n entries
+-- what the opening heap has become when n entries have been written to it, in order
 unfoldable pub state : List ℕ → List Entry → ℕ → List ℕ
 state opening history zero = opening
 state opening history (suc n) = over (state opening history n) (entry_after history n).writes
 
--- the number of the last of the first n entries that writes this cell, or 0
+-- A cell's last writer, by its number, when n entries are in. It is 0 as long as none writes the cell.
 unfoldable pub last : List Entry → ℕ → ℕ → ℕ
 last history zero address = 0
 last history (suc n) address =
     if writes_to (entry_after history n).writes address then suc n else last history n address
 
--- The note is what stands in its cell after the first n entries, with the number of the last of them that wrote it.
+-- When n entries are in, the note still tells its cell's word, and its version is the cell's last writer.
 pub record IsCurrent (opening : List ℕ) (history : List Entry) (n : ℕ) (note : Note) : Type 0 where
   pub value : slice_index (state opening history n) note.addr.0 ≡ note.value
   pub version : note.version ≡ last history n note.addr.0
 
--- The opening heap is one of words, and each entry had read what the entries before it left.
+-- The opening heap is one of words, and each entry's notes were current when those before it were in.
 pub record IsLegal (opening : List ℕ) (history : List Entry) : Type 0 where
   pub opening_words : AreWords opening
   pub entries : All IsEntry history

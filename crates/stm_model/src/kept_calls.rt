@@ -1,8 +1,8 @@
 //! Handlers' runs and rings as lists, in memory that was taken beforehand.
-ghost use Rattle.std.specs.Prelude.{◌≡◌, ◌≤◌, [], None, Some, false, length, vec_capacity, if◌then◌else◌, IfOk};
+ghost use Rattle.std.specs.Prelude.{◌≡◌, ◌≤◌, [], false, length, vec_capacity, IfOk};
 ghost use Rattle.std.specs.Option.{option_copied};
 ghost use Rattle.stm_model.specs.Calls.{TellsNext, after_call};
-ghost use Rattle.stm_model.specs.KeptCalls.{no_calls};
+ghost use Rattle.stm_model.specs.KeptCalls.{no_calls, told};
 
 use crate::{Addr, Bell, HookPhase, Hooks, Memory};
 use std::alloc::Global;
@@ -35,8 +35,8 @@ impl<T: Copy> Roomy<T> {
     /// Takes no memory.
     fn push(&mut self, entry: T)
         ensures room { self.new.room ≡ self.old.room }
-        ensures list { (if self.new.overrun then None else Some self.new.entries.items) ≡
-            after_call self.old.room (if self.old.overrun then None else Some self.old.entries.items) entry }
+        ensures list { told self.new.overrun self.new.entries.items ≡
+            after_call self.old.room (told self.old.overrun self.old.entries.items) entry }
     {
         if self.entries.len() < self.room {
             self.entries.push(entry).unwrap();
@@ -46,7 +46,7 @@ impl<T: Copy> Roomy<T> {
     }
 
     fn as_slice(&self) -> Option<&[T]>
-        ensures { option_copied result ≡ (if self.now.overrun then None else Some self.now.entries.items) }
+        ensures { option_copied result ≡ told self.now.overrun self.now.entries.items }
     {
         if self.overrun {
             None
@@ -56,8 +56,8 @@ impl<T: Copy> Roomy<T> {
     }
 }
 
-/// Keeps the runs and the rings, as many of each as it was made for. Once a call has gone past the
-/// room of its list, it tells that list no more.
+/// Keeps runs and rings, as many of each as it was made for. A run too many ends its list of runs, and
+/// a ring too many its list of rings.
 #[derive(Debug, Drop)]
 pub struct KeptCalls {
     runs: Roomy<(HookPhase, u64)>,
@@ -65,15 +65,14 @@ pub struct KeptCalls {
 }
 
 impl Model for KeptCalls {
-    ghost use Rattle.std.specs.Prelude.{None, Some, if◌then◌else◌};
-    ghost use Rattle.stm_model.specs.KeptCalls.{CallLists};
+    ghost use Rattle.stm_model.specs.KeptCalls.{CallLists, told};
 
     ghost Value = { CallLists };
 
     ghost view = { λ k. record {
-      runs = if k.runs.overrun then None else Some k.runs.entries.items;
+      runs = told k.runs.overrun k.runs.entries.items;
       run_room = k.runs.room;
-      rings = if k.rings.overrun then None else Some k.rings.entries.items;
+      rings = told k.rings.overrun k.rings.entries.items;
       ring_room = k.rings.room;
     } };
 }
@@ -89,14 +88,14 @@ impl KeptCalls {
         })
     }
 
-    /// The runs, each with its phase and its token. None after a run past the room.
+    /// The runs, each with its phase and its token. None once there was one too many.
     pub fn runs(&self) -> Option<&[(HookPhase, u64)]>
         ensures { option_copied result ≡ self.now.runs }
     {
         self.runs.as_slice()
     }
 
-    /// The numbers of the cells rung for. None after a ring past the room.
+    /// The numbers of the cells rung for. None once there was one too many.
     pub fn rings(&self) -> Option<&[u64]>
         ensures { option_copied result ≡ self.now.rings }
     {
@@ -123,5 +122,39 @@ impl Bell for KeptCalls {
         ensures kept { self.new ≡ record self.old { rings = after_call self.old.ring_room self.old.rings addr.0 } }
     {
         self.rings.push(u64::from(addr.0));
+    }
+}
+
+#[cfg(test)]
+mod tests {
+    use super::*;
+    use crate::Quiet;
+    use std::test::Fail;
+
+    // A run, and a ring for each of these cells.
+    fn call_all<C: Hooks + Bell>(calls: &mut C, token: u64, addrs: [Addr; 2]) {
+        calls.run(HookPhase::Commit, token);
+        for addr in addrs {
+            calls.ring(addr);
+        }
+    }
+
+    #[test]
+    fn calls_are_kept_up_to_the_room(rt: HostRuntime) -> Result<(), Fail> {
+        let mut kept = KeptCalls::new(rt.alloc(), 2, 3)?;
+        call_all(&mut kept, 7, [Addr(5), Addr(1)]);
+        assert_eq!(rt; kept.rings().ok_or("not told")?, [5, 1].as_slice());
+        call_all(&mut kept, 8, [Addr(2), Addr(4)]);
+        let runs = [(HookPhase::Commit, 7), (HookPhase::Commit, 8)];
+        assert_eq!(rt; kept.runs().ok_or("not told")?, runs.as_slice());
+        assert!(rt; kept.rings().is_none());
+        call_all(&mut kept, 9, [Addr(0), Addr(0)]);
+        assert!(rt; kept.runs().is_none());
+        Ok(())
+    }
+
+    #[test]
+    fn quiet_takes_every_call() {
+        call_all(&mut Quiet, 1, [Addr(1), Addr(2)]);
     }
 }

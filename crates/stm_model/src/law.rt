@@ -1,23 +1,24 @@
 //! What all committed heaps keep.
 ghost use Rattle.std.specs.Prelude.{ℕ, List};
 
-/// What each committed heap holds, and what one committed heap may become. Both are plain data, and
-/// neither has to be a proposition: who keeps one in a ghost field truncates it there.
+/// Which heaps may be committed, and which of them may follow which. Both relations are plain data,
+/// and neither has to be a proposition: who keeps one in a ghost field truncates it there.
 pub trait Law {
-    /// The heap is one that may be committed.
+    /// The heap may be committed.
     ghost lawful: { Self → List ℕ → Type 0 };
 
-    /// The first heap may become the second.
+    /// The second heap may follow the first.
     ghost may: { Self → List ℕ → List ℕ → Type 0 };
 
     /// Each heap may stay as it is.
     ghost may_refl: { (law : Self) (heap : List ℕ) → may law heap heap };
 
     /// What may be done in two steps may be done in one.
-    ghost may_trans: { (law : Self) (first second third : List ℕ) → may law first second → may law second third → may law first third };
+    ghost may_trans: { (law : Self) (first second third : List ℕ) →
+        may law first second → may law second third → may law first third };
 }
 
-/// The law that allows every heap and every change.
+/// The law under which each heap may be committed, and follow any other.
 #[derive(Clone, Copy, Debug, PartialEq, Eq)]
 pub struct Free;
 

@@ -1,7 +1,7 @@
 //! The laws of heaps, histories and what is owed. Each function does nothing: its clauses are theorems.
-ghost use Rattle.std.specs.Prelude.{◌≡◌, ◌≢◌, ◌+◌, ◌-◌, ◌<◌, ◌≤◌, ◌^◌, ◌++◌, ◌∷◌, [], ℕ, List, length, nat_eq, slice_index, slice_set, IsFalse, IsTrue};
+ghost use Rattle.std.specs.Prelude.{◌≡◌, ◌≢◌, ◌+◌, ◌-◌, ◌<◌, ◌≤◌, ◌^◌, ◌++◌, ◌∷◌, [], ℕ, List, length, nat_eq, slice_index, slice_set, if◌then◌else◌, is_some, IsFalse, IsTrue};
 ghost use Rattle.std.specs.List.{All, IsDistinct};
-ghost use Rattle.std.specs.Map.{keys_of, values_of};
+ghost use Rattle.std.specs.Map.{keys_of, lookup, values_of};
 ghost use Rattle.stm_model.specs.declared.note.Note.{Note};
 ghost use Rattle.stm_model.specs.Heap.{Agrees, AreWords, over, put, writes_to};
 ghost use Rattle.stm_model.specs.History.{Entry, IsCurrent, IsEntry, IsLegal, entry_after, last, state};
@@ -27,6 +27,10 @@ pub fn writes_change_their_cells()
         AreWords heap → AreWords (values_of writes) → AreWords (over heap writes) }
     ensures others { (heap : List ℕ) (writes : List (ℕ × ℕ)) (address : ℕ) →
         IsFalse (writes_to writes address) → slice_index (over heap writes) address ≡ slice_index heap address }
+    ensures written { (heap : List ℕ) (writes : List (ℕ × ℕ)) (address value : ℕ) →
+        address < length heap → lookup (nat_eq address) writes ≡ Some value → slice_index (over heap writes) address ≡ value }
+    ensures found { (writes : List (ℕ × ℕ)) (address : ℕ) →
+        writes_to writes address ≡ is_some (lookup (nat_eq address) writes) }
 {}
 
 /// The heaps of a history: the opening one, and each entry's writes put into the one before.
@@ -71,9 +75,15 @@ pub fn one_last_writer_leaves_one_word()
         All (IsCurrent opening history n) notes → Agrees notes (state opening history n) }
 {}
 
-/// An entry whose notes are current at the end of a legal history may be added there.
-pub fn current_notes_make_a_legal_entry()
-    ensures { (opening : List ℕ) (history : List Entry) (entry : Entry) → IsLegal opening history → IsEntry entry →
+/// A new entry writes over the heap that all entries before it left, and is the last writer of what it
+/// writes. Where its notes are current there, a legal history stays legal.
+pub fn a_new_entry_comes_last()
+    ensures heap { (opening : List ℕ) (history : List Entry) (entry : Entry) →
+        state opening (history ++ entry ∷ []) (length history + 1) ≡ over (state opening history (length history)) entry.writes }
+    ensures writer { (history : List Entry) (entry : Entry) (address : ℕ) →
+        last (history ++ entry ∷ []) (length history + 1) address ≡
+        (if writes_to entry.writes address then length history + 1 else last history (length history) address) }
+    ensures legal { (opening : List ℕ) (history : List Entry) (entry : Entry) → IsLegal opening history → IsEntry entry →
         All (IsCurrent opening history (length history)) entry.reads → IsLegal opening (history ++ entry ∷ []) }
 {}
 

@@ -27,10 +27,9 @@ pub use cells::Cells;
 pub use kept_calls::KeptCalls;
 pub use law::{Free, Law};
 pub use laws::{
-    a_put_write_comes_last, current_notes_make_a_legal_entry,
-    each_entry_writes_over_the_heap_before, free_allows_all_writes,
-    one_last_writer_leaves_one_word, reads_owe_nothing, the_last_writer_writes_last,
-    the_past_stays, writes_change_their_cells,
+    a_new_entry_comes_last, a_put_write_comes_last, each_entry_writes_over_the_heap_before,
+    free_allows_all_writes, one_last_writer_leaves_one_word, reads_owe_nothing,
+    the_last_writer_writes_last, the_past_stays, writes_change_their_cells,
 };
 pub use marks::{Level, WriteMark};
 pub use meta::{Meta, Phase, TxnStatus};

@@ -64,7 +64,10 @@ impl WordValue for bool {
 
     ghost value_of = { bool_value };
 
-    ghost is_its_word = { λ word. elim [ false ↦ λ is. Prim.grind (arith, nat_tests) | true ↦ λ is. Prim.grind (arith, nat_tests) ] };
+    ghost is_its_word = { λ word. elim [
+      | false ↦ λ is. Prim.grind (arith, nat_tests)
+      | true ↦ λ is. Prim.grind (arith, nat_tests)
+    ] };
 
     fn to_word(self) -> u64 {
         u64::from(self)
@@ -93,5 +96,43 @@ impl WordValue for char {
 
     fn from_word(word: u64) -> Option<char> {
         char::from_u32(u32::from_word(word)?)
+    }
+}
+
+#[cfg(test)]
+mod tests {
+    use super::*;
+
+    fn there_and_back<T: WordValue>(value: T) -> Option<T> {
+        T::from_word(value.to_word())
+    }
+
+    #[test]
+    fn values_come_back_from_their_words(rt: HostRuntime) {
+        assert_eq!(rt; there_and_back(u64::MAX), Some(u64::MAX));
+        assert_eq!(rt; there_and_back(u32::MAX), Some(u32::MAX));
+        assert_eq!(rt; there_and_back(true), Some(true));
+        assert_eq!(rt; there_and_back('\u{10FFFF}'), Some('\u{10FFFF}'));
+        assert_eq!(rt; 'A'.to_word(), 65);
+    }
+
+    #[test]
+    fn words_past_the_bounds_are_no_values(rt: HostRuntime) {
+        assert_eq!(rt; u32::from_word(0xFFFF_FFFF), Some(u32::MAX));
+        assert_eq!(rt; u32::from_word(0x1_0000_0000), None);
+        for (word, value) in [(0, Some(false)), (1, Some(true)), (2, None)] {
+            assert_eq!(rt; bool::from_word(word), value);
+        }
+        for (word, value) in [
+            (0xD7FF, Some('\u{D7FF}')),
+            (0xD800, None),
+            (0xDFFF, None),
+            (0xE000, Some('\u{E000}')),
+            (0x10_FFFF, Some('\u{10FFFF}')),
+            (0x11_0000, None),
+            (0x1_0000_0041, None),
+        ] {
+            assert_eq!(rt; char::from_word(word), value);
+        }
     }
 }
