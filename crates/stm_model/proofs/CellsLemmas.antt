@@ -106,4 +106,4 @@ length_put_step false old new writes puts most = omega arith
 
 pub length-put : (writes : List (ℕ × ℕ)) (address value : ℕ) → length (put writes address value) ≤ length writes + 1
 length-put [] address value = omega arith
-length-put (write ∷ writes) address value = length_put_step (nat_eq write.0 address) write (address, value) writes (put writes address value) (length-put writes address value)
+length-put (write ∷ writes) address value = length_put_step (nat_eq address write.0) write (address, value) writes (put writes address value) (length-put writes address value)

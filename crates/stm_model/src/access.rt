@@ -21,11 +21,7 @@ pub enum Access {
     Load(Word),
     Store(Word, u64),
     Swap(Word, u64),
-<<<<<<< HEAD
-    /// Puts `new` where it finds `old`, and else nothing.
-=======
     /// Puts `new` where it finds `old`, and else changes nothing.
->>>>>>> 832573362eccbfc3158e41190f5f0c7062ac9a20
     Exchange { word: Word, old: u64, new: u64 },
     /// Sets the bits of the mask.
     SetBits(Word, u64),
