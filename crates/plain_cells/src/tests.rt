@@ -86,6 +86,7 @@ fn levels_nest_sixty_four_deep_and_a_cause_repeats(rt: HostRuntime) -> Result<()
     }
     let deep = Cause::TooDeep { depth: 64 };
     assert_eq!(rt; cells.enter(), Err(deep));
+    assert_eq!(rt; cells.size(), 3);
     assert_eq!(rt; cells.get(Addr(0)), Err(deep));
     assert_eq!(rt; cells.set(Addr(0), 1), Err(deep));
     assert_eq!(rt; cells.hook(HookPhase::Commit, 1), Err(deep));
