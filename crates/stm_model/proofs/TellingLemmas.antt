@@ -1,14 +1,14 @@
 -- What calls tell, one after another.
-use Rattle.std.proofs.Common.{◌≡◌, ℕ, ◌+◌, ◌<◌, ◌≤◌, List, [], ◌∷◌, ◌++◌, length, get_or, set, Option, Some, None, refl, sym, ap, subst, ◌∙◌, inl, inr, arith, length-append}
+use Rattle.std.proofs.Common.{◌≡◌, ℕ, ◌+◌, ◌≤◌, List, [], ◌∷◌, ◌++◌, length, get_or, set, None, refl, sym, ap, subst, ◌∙◌, inl, inr, arith, length-append}
 use Rattle.std.specs.Prelude.{Result, Ok, Err, MatchResult, ◌⊎◌}
 use Rattle.std.proofs.Math.Logic.{∥∥₁_elim}
 use denote.Struct.Props.{props}
 use Rattle.stm_model.specs.declared.cause.Cause.{Cause}
 use Rattle.stm_model.specs.declared.note.Note.{Note}
 use Rattle.stm_model.specs.Heap.{over, put}
-use Rattle.stm_model.specs.Owes.{IsPossible, Owes}
-use Rattle.stm_model.specs.CellsState.{Book, CellsState, written}
-use Rattle.stm_model.specs.Telling.{Extends, Witness, Got, IsNewNote, Does, Enters, Refused, Leads, Learned, Changed, Cut, AddsAtMost, Reading, Writing, Stopping, Knows, StaysLawful}
+use Rattle.stm_model.specs.Owes.{IsPossible}
+use Rattle.stm_model.specs.CellsState.{CellsState, written}
+use Rattle.stm_model.specs.Telling.{Extends, Witness, Got, IsNewNote, Does, Refused, Leads, Learned, Changed, Cut, AddsAtMost, Reading, Writing, Stopping, Knows, StaysLawful}
 use Rattle.stm_model.proofs.HeapLemmas.{over-put}
 use Rattle.stm_model.proofs.CellsLemmas.{Extends-refl, Extends-same, Extends-trans, IsPossible-before, length-put}
 

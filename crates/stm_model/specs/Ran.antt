@@ -1,5 +1,5 @@
 -- What a run of a body on cells promises.
-use Rattle.std.specs.Prelude.{◌≡◌, ℕ, ◌≤◌, ◌⊎◌, List, length, Option, Some, None, Result, Ok, Err, IfOk, IfErr}
+use Rattle.std.specs.Prelude.{◌≡◌, ℕ, ◌≤◌, ◌⊎◌, List, length, Some, None, Result, Ok, Err, IfOk, IfErr}
 use Rattle.stm_model.specs.declared.cause.Cause.{Cause}
 use Rattle.stm_model.specs.declared.cause.Cause.TheVariants.{Retry, User, Full, Memory}
 use Rattle.stm_model.specs.CellsState.{Book, CellsState}

@@ -1,11 +1,11 @@
 -- What calls of cells tell: from the state before to the state after.
-use Rattle.std.specs.Prelude.{◌≡◌, ◌≢◌, ℕ, ◌+◌, ◌<◌, ◌≤◌, ◌⊎◌, Bool, false, List, [], ◌∷◌, ◌++◌, length, slice_index, Option, Some, None}
+use Rattle.std.specs.Prelude.{◌≡◌, ◌≢◌, ℕ, ◌+◌, ◌<◌, ◌≤◌, ◌⊎◌, false, List, [], ◌∷◌, ◌++◌, length, slice_index, Some, None}
 use Rattle.std.specs.List.{All}
 use Rattle.stm_model.specs.declared.cause.Cause.{Cause}
 use Rattle.stm_model.specs.declared.note.Note.{Note}
 use Rattle.stm_model.specs.Heap.{over, writes_to}
 use Rattle.stm_model.specs.Owes.{IsPossible, Owes}
-use Rattle.stm_model.specs.CellsState.{CellsState, Book, entered}
+use Rattle.stm_model.specs.CellsState.{CellsState, entered}
 use Rattle.stm_model.specs.Refusing.{deepest}
 
 -- the list, with more behind it
