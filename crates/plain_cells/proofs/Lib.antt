@@ -2,3 +2,4 @@ pub mod Writes
 pub mod Nested
 pub mod Notes
 pub mod Fronts
+pub mod Counting

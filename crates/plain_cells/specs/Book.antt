@@ -9,7 +9,7 @@ book_of book = record { writes = book.writes.items; hooks = book.hooks.items; la
 -- the value that the writes give a cell
 abbrev pub value_in : List (ℕ × ℕ) → ℕ → Option ℕ
 value_in [] address = None
-value_in (write ∷ writes) address = if nat_eq write.0 address then Some write.1 else value_in writes address
+value_in (write ∷ writes) address = if nat_eq address write.0 then Some write.1 else value_in writes address
 
 -- The list of runs has room for the runs of all handlers.
 abbrev pub HasRoom : PlainBook → Type 0

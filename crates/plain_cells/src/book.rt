@@ -52,7 +52,7 @@ pub(crate) fn buffered(writes: &[(u32, u64)], address: u32) -> Option<u64>
 {
     let mut rest = writes;
     while let Some((write, tail)) = rest.split_first() {
-        if write.0 == address {
+        if address == write.0 {
             return Some(write.1);
         }
         rest = tail;
@@ -84,7 +84,7 @@ pub(crate) fn put_write(
     ensures err { OnErr result (writes.new.items ≡ writes.old.items) }
 {
     for i in 0..writes.len() {
-        if writes[i].0 == address {
+        if address == writes[i].0 {
             writes[i] = (address, value);
             return Ok(());
         }

@@ -7,3 +7,6 @@ mod cells;
 
 pub use book::PlainBook;
 pub use cells::PlainCells;
+
+#[cfg(test)]
+mod tests;

@@ -1,5 +1,5 @@
 -- States of cells: what is possible later was possible before, and what a single call makes of them.
-use Rattle.std.proofs.Common.{◌≡◌, ℕ, ◌+◌, ◌-◌, ◌≤◌, Bool, true, false, cond, nat_eq, List, [], ◌∷◌, ◌++◌, length, Option, Some, None, refl, sym, ap, subst, ◌∙◌, arith, length-append, append_assoc}
+use Rattle.std.proofs.Common.{◌≡◌, ℕ, ◌+◌, ◌-◌, ◌≤◌, Bool, true, false, cond, nat_eq, List, [], ◌∷◌, ◌++◌, length, Option, Some, None, refl, sym, ap, subst, ◌∙◌, arith, append_assoc}
 use Rattle.std.specs.Coded.{Unit-prop}
 use Rattle.std.proofs.Math.Nat.{ℕ_set}
 use Rattle.std.proofs.lemmas.List.{append-nil}
@@ -9,7 +9,7 @@ use Rattle.stm_model.specs.declared.note.Note.{Note}
 use Rattle.stm_model.specs.Heap.{put}
 use Rattle.stm_model.specs.Owes.{IsPossible, Owes}
 use Rattle.stm_model.specs.CellsState.{Book, CellsState, outer, restored, restored_unless}
-use Rattle.stm_model.specs.Refusing.{IsOfCells, RefusesRead}
+use Rattle.stm_model.specs.Refusing.{IsOfCells}
 use Rattle.stm_model.specs.Telling.{Extends}
 use Rattle.stm_model.proofs.OwesLemmas.{IsPossible-front}
 
@@ -27,10 +27,6 @@ Extends-same before after same = ([], same ∙ sym (append-nil before))
 pub Extends-trans : {T : Type 0} (first second third : List T) → Extends first second → Extends second third → Extends first third
 Extends-trans first second third one two =
     (one.0 ++ two.0, two.1 ∙ (ap (λ list. list ++ two.0) one.1 ∙ append_assoc first one.0 two.0))
-
-pub length-Extends : {T : Type 0} (before after : List T) → Extends before after → length before ≤ length after
-length-Extends before after more =
-    let e : length after ≡ length before + length more.0 = ap length more.1 ∙ length-append before more.0 in omega arith
 
 -- ---- what is possible and what is owed
 
@@ -54,21 +50,6 @@ Owes-later lawful may before after size writes reads owes = λ heap possible.
 pub none_before : {T : Type 0} (before after : Option T) → ((earlier : T) → before ≡ Some earlier → after ≡ Some earlier) → after ≡ None → before ≡ None
 none_before None after again none = refl
 none_before (Some cause) after again none = cc (again cause refl, none)
-
-pub IsOfCells-read : (address : ℕ) (cause : Cause) → RefusesRead address cause → IsOfCells cause
-IsOfCells-read address (ReadConflict cell meta) is = tt
-IsOfCells-read address (Moved cell first second) is = tt
-IsOfCells-read address (Stale cell version meta) is = tt
-IsOfCells-read address Memory is = tt
-IsOfCells-read address (WriteConflict cell meta) is = absurd is
-IsOfCells-read address (Doomed status) is = absurd is
-IsOfCells-read address (ClockMoved first second) is = absurd is
-IsOfCells-read address (ClockEnd clock) is = absurd is
-IsOfCells-read address Retry is = absurd is
-IsOfCells-read address (User code) is = absurd is
-IsOfCells-read address (Full used blocks) is = absurd is
-IsOfCells-read address (TooDeep depth) is = absurd is
-IsOfCells-read address (AttemptsEnd serial) is = absurd is
 
 pub IsOfCells-prop : (cause : Cause) → IsProp (IsOfCells cause)
 IsOfCells-prop (ReadConflict cell meta) = Unit-prop

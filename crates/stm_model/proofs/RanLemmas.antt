@@ -2,9 +2,10 @@
 use Rattle.std.proofs.Common.{◌≡◌, ℕ, List, [], ◌∷◌, length, drop, Some, None, sym, ap, subst, ◌∙◌, inr, arith}
 use Rattle.std.specs.Prelude.{Result, Ok, Err, IfOk, IfErr, ◌⊎◌}
 use Rattle.stm_model.specs.declared.cause.Cause.{Cause}
+use Rattle.stm_model.specs.Heap.{over}
 use Rattle.stm_model.specs.Owes.{IsPossible, Owes}
 use Rattle.stm_model.specs.CellsState.{Book, CellsState, entered, kept, undone, outer, restored, undoing}
-use Rattle.stm_model.specs.Telling.{Owing, Enters, Refused, Leads}
+use Rattle.stm_model.specs.Telling.{Extends, Owing, Enters, Refused, Leads}
 use Rattle.stm_model.specs.Ran.{Grows, IsDecided, IsOfBody, Ran}
 use Rattle.stm_model.proofs.CellsLemmas.{Extends-refl, Extends-same, Extends-append, Extends-trans, IsPossible-before, Owes-later, none_before, length-outer, restored-going}
 
@@ -74,30 +75,6 @@ Ran-then lawful may means leaves means2 leaves2 both left out answer s t u so le
       causes = two.causes;
       again = λ cause is. two.again cause (one.again cause is);
     }
-
--- a body told in other words
-pub Ran-map : {T U : Type 0} (lawful : List ℕ → Type 0) (may : List ℕ → List ℕ → Type 0)
-    (means : List ℕ → Book → Result T Cause → Book → Type 0) (leaves : List ℕ → Book → Type 0)
-    (means2 : List ℕ → Book → Result U Cause → Book → Type 0) (leaves2 : List ℕ → Book → Type 0)
-    (answer : Result T Cause) (answer2 : Result U Cause) (s t : CellsState)
-    → (IsDecided answer2 → IsDecided answer)
-    → ((heap : List ℕ) (book : Book) → means heap s.now answer book → means2 heap s.now answer2 book)
-    → ((heap : List ℕ) → leaves heap s.now → leaves2 heap s.now)
-    → (IfOk answer2 (λ out. Owes lawful may t.size t.reads t.now.writes))
-    → IfErr answer2 (λ cause. IsOfBody cause ⊎ (t.cause ≡ Some cause))
-    → Ran lawful may means leaves answer s t → Ran lawful may means2 leaves2 answer2 s t
-Ran-map lawful may means leaves means2 leaves2 answer answer2 s t decides so left_so owes causes ran = record {
-  size = ran.size;
-  reads = ran.reads;
-  saved = ran.saved;
-  levels = ran.levels;
-  grows = ran.grows;
-  whole = λ none decided heap possible. so heap t.now (ran.whole none (decides decided) heap possible);
-  left = λ heap possible. left_so heap (ran.left heap possible);
-  owes = λ none. owes;
-  causes = causes;
-  again = ran.again;
-}
 
 owed_if : {T : Type 0} {P : Type 0} (answer : Result T Cause) → P → IfOk answer (λ out. P)
 owed_if (Ok out) owed = owed
@@ -234,4 +211,32 @@ run_kept lawful may law follows state trans means leaves means2 leaves2 out out2
   goes = trans c e f (trans c d e p.goes q.goes) r.goes;
   states = Ran-kept (lawful (law c)) (may (law c)) means leaves means2 leaves2 out out2 (state c) (state d) (state e) (state f) so left_so p.states
       (run_under lawful may means leaves (law c) (law d) (Ok out) (state d) (state e) p.same_law q.states) r.states;
+}
+
+-- ---- bodies that are calls alone
+
+pub Owes-free : (lawful : List ℕ → Type 0) (may : List ℕ → List ℕ → Type 0) (s : CellsState)
+    → ((heap : List ℕ) → lawful heap) → ((before after : List ℕ) → may before after) → Owes lawful may s.size s.reads s.now.writes
+Owes-free lawful may s all any = λ heap possible. (all (over heap s.now.writes), any heap (over heap s.now.writes))
+
+-- a body all of whose calls did what they do
+pub Ran-calls : {T : Type 0} (lawful : List ℕ → Type 0) (may : List ℕ → List ℕ → Type 0)
+    (means : List ℕ → Book → Result T Cause → Book → Type 0) (leaves : List ℕ → Book → Type 0)
+    (out : T) (s t : CellsState)
+    → s.cause ≡ None → t.size ≡ s.size → Extends s.reads t.reads → t.saved ≡ s.saved → Grows s.now t.now
+    → ((heap : List ℕ) → IsPossible lawful s.size t.reads heap → means heap s.now (Ok out) t.now)
+    → ((heap : List ℕ) → leaves heap s.now)
+    → Owes lawful may t.size t.reads t.now.writes
+    → Ran lawful may means leaves (Ok out) s t
+Ran-calls lawful may means leaves out s t going size reads saved grows whole left owes = record {
+  size = size;
+  reads = reads;
+  saved = λ none. saved;
+  levels = let same : length t.saved ≡ length s.saved = ap length saved in omega arith;
+  grows = λ none. grows;
+  whole = λ none decided heap possible. whole heap possible;
+  left = λ heap possible. left heap;
+  owes = λ none. owes;
+  causes = tt;
+  again = λ earlier is. cc (going, is);
 }

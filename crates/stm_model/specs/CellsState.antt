@@ -25,10 +25,6 @@ pub record CellsState : Type 0 where
   pub saved : List Book
   pub cause : Option Cause
 
--- before the first call
-abbrev pub unread : ℕ → CellsState
-unread size = record { size = size; reads = []; now = empty_book; saved = []; cause = None }
-
 -- ---- what the calls make of it
 
 abbrev pub written : ℕ → ℕ → CellsState → CellsState
