@@ -1,12 +1,10 @@
 -- What a body that counts a cell up is, by its calls.
-use Rattle.std.proofs.Common.{◌≡◌, ℕ, ◌+◌, ◌<◌, ◌≤◌, List, [], ◌∷◌, ◌++◌, length, get_or, Option, Some, None, refl, sym, ap, subst, ◌∙◌, arith}
+use Rattle.std.proofs.Common.{◌≡◌, ℕ, ◌+◌, List, [], ◌∷◌, ◌++◌, get_or, sym, ap, subst, ◌∙◌}
 use Rattle.std.specs.Prelude.{Result, Ok, Err, MatchResult}
 use Rattle.stm_model.specs.declared.cause.Cause.{Cause}
-use Rattle.stm_model.specs.declared.cause.Cause.TheVariants.{User, Memory}
 use Rattle.stm_model.specs.declared.cause.HookPhase.{HookPhase}
 use Rattle.stm_model.specs.Heap.{over, put}
 use Rattle.stm_model.specs.CellsState.{Book, CellsState, written, delayed, hooked}
-use Rattle.stm_model.specs.Owes.{Owes}
 use Rattle.stm_model.specs.Telling.{Does, Extends, Got, Leads, Refused}
 use Rattle.stm_model.specs.Ran.{Grows, Ran}
 use Rattle.stm_model.proofs.CellsLemmas.{Extends-refl, Extends-append}

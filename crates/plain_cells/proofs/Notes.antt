@@ -1,5 +1,5 @@
 -- The last note, where all of them are the heap's.
-use Rattle.std.proofs.Common.{◌≡◌, ℕ, ◌<◌, ◌+◌, List, [], ◌∷◌, ◌++◌, length, get_or, arith, length-append}
+use Rattle.std.proofs.Common.{◌≡◌, ℕ, List, [], ◌∷◌, ◌++◌, length, get_or, arith, length-append}
 use Rattle.std.proofs.lemmas.Grind.{common_steps}
 use Rattle.stm_model.specs.declared.note.Note.{Note}
 use Rattle.stm_model.specs.Heap.{Agrees}

@@ -1,5 +1,5 @@
 -- What ghost fields of plain cells rest on.
-use Rattle.std.proofs.Common.{◌≡◌, ℕ, ◌<◌, ◌≤◌, ◌^◌, List, [], ◌∷◌, length, Option, Some, None, refl, arith}
+use Rattle.std.proofs.Common.{ℕ, List, length, Option, Some, None, refl}
 use Rattle.std.specs.Prelude.{IfSome}
 use Rattle.std.specs.Coded.{Unit-prop}
 use Rattle.std.proofs.Math.Nat.{ℕ_set}
@@ -7,7 +7,6 @@ use denote.Struct.Props.{props}
 use Rattle.stm_model.specs.declared.cause.Cause.{Cause}
 use Rattle.stm_model.specs.declared.note.Note.{Note}
 use Rattle.stm_model.specs.Heap.{Agrees, AreWords}
-use Rattle.stm_model.specs.Owes.{IsPossible}
 use Rattle.stm_model.specs.Refusing.{IsOfCells}
 use Rattle.stm_model.specs.Telling.{Witness}
 use Rattle.stm_model.proofs.CellsLemmas.{IsOfCells-prop}

@@ -1,4 +1,4 @@
-use Rattle.std.proofs.Common.{◌≡◌, [], length, rules, arith, refl, ap, subst, sym}
+use Rattle.std.proofs.Common.{◌≡◌, length, rules, arith, ap}
 use Rattle.stm_model.specs.CellsState.{Book}
 use Rattle.plain_cells.proofs.Nested.{Nest-empty}
 use Rattle.plain_cells.proofs.Notes.{Agrees-empty}

@@ -1,4 +1,4 @@
-use Rattle.std.proofs.Common.{◌≡◌, ◌<◌, ◌≤◌, length, rules, arith, sym, ◌∙◌}
+use Rattle.std.proofs.Common.{rules, arith}
 use Rattle.stm_model.specs.Heap.{over}
 use Rattle.stm_model.proofs.HeapLemmas.{length-over}
 use Rattle.plain_cells.proofs.Fronts.{front_more, front_whole}

@@ -1,7 +1,5 @@
-use Rattle.std.proofs.Common.{◌≡◌, ◌≢◌, ◌<◌, ◌++◌, ◌∷◌, [], length, None, Some, rules, refl, sym, subst, ◌∙◌, inl, inr}
+use Rattle.std.proofs.Common.{◌≡◌, ◌≢◌, ◌++◌, ◌∷◌, [], None, Some, rules, refl, ◌∙◌, inl, inr}
 use Rattle.std.specs.List.{All}
-use Rattle.std.proofs.lemmas.List.{get_or_read}
-use Rattle.stm_model.specs.Heap.{writes_to}
 use Rattle.stm_model.proofs.HeapLemmas.{over_other}
 use Rattle.plain_cells.specs.Book.{value_in}
 use Rattle.plain_cells.proofs.Writes.{over-value_in, unwritten}

@@ -1,6 +1,5 @@
-use Rattle.std.proofs.Common.{◌≡◌, ◌+◌, ◌++◌, ◌∷◌, [], length, rules, arith, ap, subst, sym, ◌∙◌, length-append}
+use Rattle.std.proofs.Common.{◌≡◌, ◌+◌, ◌∷◌, [], length, arith, ap, ◌∙◌, length-append}
 use Rattle.stm_model.specs.CellsState.{Book}
-use Rattle.plain_cells.specs.Levels.{Nest}
 use Rattle.plain_cells.proofs.Nested.{Nest-more}
 use Rattle.plain_cells.proofs.cells.PlainCellsCells.hook.Goals as goal
 
