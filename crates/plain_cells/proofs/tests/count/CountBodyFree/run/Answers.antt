@@ -1,4 +1,4 @@
-use Rattle.std.proofs.Common.{◌∙◌, rules, refl, arith}
+use Rattle.std.proofs.Common.{◌∙◌, refl, arith}
 use Rattle.plain_cells.proofs.Counting.{Ran-counted}
 use Rattle.plain_cells.proofs.tests.count.CountBodyFree.run.Goals as goal
 
