@@ -2,7 +2,8 @@
 use Rattle.std.specs.Prelude.{ℕ, Bool, true, false, nat_lt, if◌then◌else◌, List, [], ◌++◌}
 use Rattle.stm_model.specs.declared.cause.HookPhase.{HookPhase}
 use Rattle.stm_model.specs.declared.cause.HookPhase.TheVariants.{Preparing, Committing, Commit, Completion}
-use Rattle.ledger_model.specs.Run.{Kept, Failed, Retried, State, Outcome, of_phase, undoing}
+use Rattle.stm_model.specs.CellsState.{undoing}
+use Rattle.ledger_model.specs.Run.{Kept, Failed, Retried, State, Outcome, of_phase}
 
 -- what becomes of a script
 pub data Settled : Type 0 where
