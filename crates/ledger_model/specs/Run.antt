@@ -1,7 +1,7 @@
 -- What a script does, run alone on plain contents.
 use Rattle.std.specs.Prelude.{ℕ, zero, suc, ◌+◌, ◌-◌, ◌%◌, ◌^◌, Bool, true, false, nat_eq, nat_lt, if◌then◌else◌, List, [], ◌∷◌, ◌++◌, length, map, filter, replicate, drop, slice_index, slice_index_or, slice_set, unwrap_or, is_some, sum, sum_by}
 use Rattle.stm_model.specs.declared.cause.HookPhase.{HookPhase}
-use Rattle.stm_model.specs.CellsState.{undoing}
+use Rattle.stm_model.specs.Handlers.{undoing}
 use Rattle.ledger_model.specs.declared.job.Contents.{Contents}
 use Rattle.ledger_model.specs.declared.script.Operand.{Operand}
 use Rattle.ledger_model.specs.declared.script.Operand.TheVariants.{Reg, Number}
@@ -94,10 +94,6 @@ abbrev pub allowed : ℕ → State → State
 allowed n s = record s { totals = s.totals ++ (allowance s + n) ∷ [] }
 
 -- ---- handlers
-
--- the handlers of some phases, in order of registration
-abbrev pub of_phase : (HookPhase → Bool) → List (HookPhase × ℕ) → List (HookPhase × ℕ)
-of_phase is hooks = filter (λ hook. is hook.0) hooks
 
 -- The state `before` again, but for what is never undone: the trail, the totals and the handlers that ran. Those registered since run now.
 abbrev pub undone : State → State → State

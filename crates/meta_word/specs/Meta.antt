@@ -1,5 +1,5 @@
 -- A cell's metadata word as a number, and as its fields.
-use Rattle.std.specs.Prelude.{ℕ, ◌+◌, ◌*◌, ◌/◌, ◌%◌, ◌^◌, ◌≤◌, ◌==◌}
+use Rattle.std.specs.Prelude.{ℕ, ◌+◌, ◌*◌, ◌/◌, ◌%◌, ◌^◌, ◌≤◌, ◌==◌, Bool, not, ◌&&◌, nat_eq}
 use Rattle.std.specs.Int.{bit_at, from_bool}
 use Rattle.meta_word.specs.declared.meta.Meta.{Meta}
 use Rattle.meta_word.specs.declared.meta.TheConstants.{MAX_OWNER, MAX_VERSION}
@@ -21,3 +21,20 @@ meta_of word = record {
   owner = word / 2 ^ 51 % 2 ^ 11;
   version = word % 2 ^ 51;
 }
+
+-- ---- what the word says to a caller
+
+-- a caller other than this one
+abbrev pub is_another : ℕ → ℕ → Bool
+is_another own caller = not (nat_eq caller 0) && not (nat_eq caller own)
+
+abbrev pub owned_by_another : ℕ → Meta → Bool
+owned_by_another own meta = is_another own meta.owner
+
+-- another caller is about to store a value
+abbrev pub changing_by_another : ℕ → Meta → Bool
+changing_by_another own meta = meta.changing && owned_by_another own meta
+
+-- the cell still has the version, and no other caller is about to change it
+abbrev pub still_has : ℕ → ℕ → Meta → Bool
+still_has own version meta = nat_eq meta.version version && not (changing_by_another own meta)

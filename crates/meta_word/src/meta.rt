@@ -17,7 +17,7 @@
 //! Where the word that was given back or released was pending, that caller rings for those who wait.
 
 ghost use Rattle.std.specs.Prelude.{◌≡◌};
-ghost use Rattle.meta_word.specs.Meta.{MetaFits, meta_of, meta_word};
+ghost use Rattle.meta_word.specs.Meta.{MetaFits, changing_by_another, meta_of, meta_word, owned_by_another, still_has};
 
 // Where the fields begin. The version begins at bit 0.
 const OWNER_AT: u32 = 51;
@@ -56,6 +56,29 @@ pub struct Meta {
     /// The stamp of the last committed write of the cell, or 0 where there is none. It only rises,
     /// and wherever the word isn't changing, the cell's value is that write's.
     pub version: u64,
+}
+
+impl Meta {
+    /// Whether a caller other than this one owns the cell.
+    pub fn is_owned_by_another(&self, own: u16) -> bool
+        ensures { result ≡ owned_by_another own self.now }
+    {
+        self.owner != 0 && self.owner != own
+    }
+
+    /// Whether a caller other than this one is about to store a value.
+    pub fn is_changing_by_another(&self, own: u16) -> bool
+        ensures { result ≡ changing_by_another own self.now }
+    {
+        self.changing && self.is_owned_by_another(own)
+    }
+
+    /// Whether the cell still has this version, and no caller other than this one is about to change it.
+    pub fn still_has(&self, own: u16, version: u64) -> bool
+        ensures { result ≡ still_has own version self.now }
+    {
+        self.version == version && !self.is_changing_by_another(own)
+    }
 }
 
 /// The word of these fields.

@@ -80,3 +80,27 @@ fn each_phase_has_its_number_below_the_serial(rt: HostRuntime) -> Result<(), Fai
     }
     Ok(())
 }
+
+#[test]
+fn a_word_says_what_others_do_with_the_cell(rt: HostRuntime) -> Result<(), Fail> {
+    let word = |changing, owner| Meta {
+        changing,
+        pending: false,
+        owner,
+        version: 4,
+    };
+    let table = [
+        // owned by another, changing by another, still at version 4
+        (word(false, 0), false, false, true),
+        (word(true, 7), false, false, true),
+        (word(false, 8), true, false, true),
+        (word(true, 8), true, true, false),
+    ];
+    for (meta, owned, changing, still) in table {
+        assert_eq!(rt; meta.is_owned_by_another(7), owned);
+        assert_eq!(rt; meta.is_changing_by_another(7), changing);
+        assert_eq!(rt; meta.still_has(7, 4), still);
+        assert_eq!(rt; meta.still_has(7, 3), false);
+    }
+    Ok(())
+}

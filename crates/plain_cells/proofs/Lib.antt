@@ -3,3 +3,4 @@ pub mod Nested
 pub mod Notes
 pub mod Fronts
 pub mod Counting
+pub mod GuardedCopying

@@ -1,5 +1,6 @@
--- The last note, where all of them are the heap's.
+-- What notes tell, where all of them are the heap's.
 use Rattle.std.proofs.Common.{◌≡◌, ℕ, List, [], ◌∷◌, ◌++◌, length, get_or, arith, length-append}
+use Rattle.std.specs.List.{Any}
 use Rattle.std.proofs.lemmas.Grind.{common_steps}
 use Rattle.stm_model.specs.declared.note.Note.{Note}
 use Rattle.stm_model.specs.Heap.{Agrees}
@@ -11,6 +12,15 @@ pub Agrees-last : (notes : List Note) (note : Note) (heap : List ℕ) → Agrees
 Agrees-last notes note heap agrees =
     let h = agrees (length notes) note (omega (arith, length-append notes (note ∷ []))) in
     rw (last_of notes note) at h
+
+pub Agrees-noted : (notes : List Note) (address value : ℕ) (heap : List ℕ) → Any (λ note. (note.addr.0 ≡ address) × (note.value ≡ value)) notes
+    → Agrees notes heap → get_or heap address 0 ≡ value
+Agrees-noted notes address value heap (k, note, within, here, tells) agrees =
+    let h = rw here at (agrees k note within) in rw (tells.0, tells.1) at h
+
+-- some note is of the cell
+pub noted_cell : (notes : List Note) (address value : ℕ) → Any (λ note. (note.addr.0 ≡ address) × (note.value ≡ value)) notes → Any (λ note. note.addr.0 ≡ address) notes
+noted_cell notes address value (k, note, within, here, tells) = (k, note, within, here, tells.0)
 
 pub Agrees-empty : (notes : List Note) (heap : List ℕ) → notes ≡ [] → Agrees notes heap
 Agrees-empty notes heap none = rw none (λ k d within. absurd (omega arith))

@@ -1,9 +1,11 @@
 //! What is written and registered, kept in plain lists.
-ghost use Rattle.std.specs.Prelude.{◌≡◌, ◌≢◌, ◌+◌, ◌≤◌, [], ◌∷◌, ◌++◌, ℕ, List, drop, length, slice_index, vec_capacity, IfOk, MatchOption, OnErr, OnOk};
-ghost use Rattle.std.specs.List.{All};
-ghost use Rattle.stm_model.specs.CellsState.{empty_book, hooked, is_undoing, undoing};
-ghost use Rattle.stm_model.specs.Heap.{Agrees, put};
-ghost use Rattle.plain_cells.specs.Book.{HasRoom, book_of, value_in};
+ghost use Rattle.std.specs.Prelude.{◌≡◌, ◌≢◌, ◌+◌, ◌≤◌, [], ◌∷◌, ◌++◌, drop, length, nat_eq, vec_capacity, IfOk, MatchOption, OnErr, OnOk};
+ghost use Rattle.std.specs.List.{All, Any};
+ghost use Rattle.std.specs.Map.{lookup};
+ghost use Rattle.stm_model.specs.CellsState.{empty_book, hooked};
+ghost use Rattle.stm_model.specs.Handlers.{is_undoing, undoing};
+ghost use Rattle.stm_model.specs.Heap.{put};
+ghost use Rattle.plain_cells.specs.Book.{HasRoom, book_of};
 
 use std::alloc::Global;
 use stm_model::{HookPhase, Memory, Note};
@@ -48,7 +50,7 @@ impl PlainBook {
 
 /// The value that the writes give a cell.
 pub(crate) fn buffered(writes: &[(u32, u64)], address: u32) -> Option<u64>
-    ensures { result ≡ value_in writes.now address }
+    ensures { result ≡ lookup (nat_eq address) writes.now }
 {
     let mut rest = writes;
     while let Some((write, tail)) = rest.split_first() {
@@ -64,7 +66,7 @@ pub(crate) fn buffered(writes: &[(u32, u64)], address: u32) -> Option<u64>
 pub(crate) fn noted(notes: &[Note], address: u32) -> Option<u64>
     ensures { MatchOption result
         (All (λ note. note.addr.0 ≢ address) notes.now)
-        (λ value. (heap : List ℕ) → Agrees notes.now heap → slice_index heap address ≡ value) }
+        (λ value. Any (λ note. (note.addr.0 ≡ address) × (note.value ≡ value)) notes.now) }
 {
     for note in notes {
         if note.addr.0 == address {

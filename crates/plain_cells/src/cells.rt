@@ -1,7 +1,8 @@
 //! Cells over a plain heap.
-ghost use Rattle.std.specs.Prelude.{◌≡◌, ◌+◌, ◌<◌, ◌≤◌, ◌^◌, None, Option, [], length, map, slice_index, vec_capacity, refl, IfOk, IfSome};
-ghost use Rattle.std.proofs.Common.{◌∙◌};
+ghost use Rattle.std.specs.Prelude.{◌≡◌, ◌+◌, ◌<◌, ◌≤◌, ◌^◌, None, Option, Some, [], length, map, slice_index, vec_capacity, refl, IfOk, IfSome};
+ghost use Rattle.std.proofs.Common.{◌∙◌, subst, sym};
 ghost use Rattle.std.proofs.Math.Logic.{∥∥₁_map};
+ghost use Rattle.std.proofs.lemmas.List.{length-map};
 ghost use Rattle.stm_model.specs.CellsState.{CellsState, empty_book};
 ghost use Rattle.stm_model.specs.Heap.{Agrees, AreWords, over};
 ghost use Rattle.stm_model.specs.Refusing.{IsOfCells, deepest};
@@ -12,10 +13,9 @@ ghost use Rattle.plain_cells.specs.Facts.{Agrees-prop, AreWords-prop, IsAnswer-p
 use crate::PlainBook;
 use crate::book::{add_hook, buffered, noted, put_write, undo_hooks};
 use std::alloc::Global;
-use stm_model::{Addr, Cause, Cells, HookPhase, Law, Memory, Note};
+use stm_model::{Addr, Cause, Cells, DEEPEST, HookPhase, Law, Memory, Note};
 
-/// Cells over a heap that nobody else changes. Their only causes are want of memory and levels that
-/// nest too deep.
+/// Cells over a heap that nobody else changes.
 #[derive(Drop)]
 pub struct PlainCells<L: Law + Drop> {
     alloc: Global,
@@ -37,6 +37,15 @@ pub struct PlainCells<L: Law + Drop> {
     ghost depth: { length saved.items ≤ deepest },
     ghost nested: { Nest (length book.hooks.items) saved.items } by { Nest-prop (length book.hooks.items) saved.items },
     ghost answer: { IfSome cause IsOfCells } by { IsAnswer-prop cause },
+}
+
+/// Keeps the cause that is answered from now on, and gives it.
+fn refuse(kept: &mut Option<Cause>, cause: Cause) -> Cause
+    ensures kept { kept.new ≡ Some cause }
+    ensures gives { result ≡ cause }
+{
+    *kept = Some(cause);
+    cause
 }
 
 impl<L: Law + Drop> PlainCells<L> {
@@ -106,8 +115,9 @@ impl<L: Law + Drop> Cells<L> for PlainCells<L> {
 
     ghost answered = { λ cells. cells.answer };
 
+    ghost deep = { λ cells. subst (λ levels. levels ≤ deepest) (sym (length-map cells.saved.items book_of)) cells.depth };
+
     fn size(&self) -> u32 {
-        let _ = &self.cause;
         self.heap.len() as u32
     }
 
@@ -128,8 +138,7 @@ impl<L: Law + Drop> Cells<L> for PlainCells<L> {
             value,
         };
         if let Err(_) = self.notes.push(note) {
-            self.cause = Some(Cause::Memory);
-            return Err(Cause::Memory);
+            return Err(refuse(&mut self.cause, Cause::Memory));
         }
         Ok(value)
     }
@@ -139,8 +148,7 @@ impl<L: Law + Drop> Cells<L> for PlainCells<L> {
             return Err(cause);
         }
         if let Err(Memory) = put_write(&mut self.book.writes, addr.0, value) {
-            self.cause = Some(Cause::Memory);
-            return Err(Cause::Memory);
+            return Err(refuse(&mut self.cause, Cause::Memory));
         }
         Ok(())
     }
@@ -149,21 +157,15 @@ impl<L: Law + Drop> Cells<L> for PlainCells<L> {
         if let Some(cause) = self.cause {
             return Err(cause);
         }
-        if self.saved.len() >= 64 {
-            let cause = Cause::TooDeep { depth: 64 };
-            self.cause = Some(cause);
-            return Err(cause);
+        if self.saved.len() >= DEEPEST as usize {
+            let cause = Cause::TooDeep { depth: DEEPEST };
+            return Err(refuse(&mut self.cause, cause));
         }
-        let book = match self.book.copy(self.alloc) {
-            Ok(book) => book,
-            Err(Memory) => {
-                self.cause = Some(Cause::Memory);
-                return Err(Cause::Memory);
-            }
+        let Ok(book) = self.book.copy(self.alloc) else {
+            return Err(refuse(&mut self.cause, Cause::Memory));
         };
         if let Err(_) = self.saved.insert(0, book) {
-            self.cause = Some(Cause::Memory);
-            return Err(Cause::Memory);
+            return Err(refuse(&mut self.cause, Cause::Memory));
         }
         Ok(())
     }
@@ -187,8 +189,7 @@ impl<L: Law + Drop> Cells<L> for PlainCells<L> {
             return Err(cause);
         }
         if let Err(Memory) = add_hook(&mut self.book, phase, token) {
-            self.cause = Some(Cause::Memory);
-            return Err(Cause::Memory);
+            return Err(refuse(&mut self.cause, Cause::Memory));
         }
         Ok(())
     }
@@ -198,8 +199,7 @@ impl<L: Law + Drop> Cells<L> for PlainCells<L> {
             return Err(cause);
         }
         if let Err(_) = self.book.laters.push(token) {
-            self.cause = Some(Cause::Memory);
-            return Err(Cause::Memory);
+            return Err(refuse(&mut self.cause, Cause::Memory));
         }
         Ok(())
     }

@@ -1,10 +1,12 @@
-//! Plain cells at work: reads and writes, levels by hand, causes that repeat, and a body.
+//! Plain cells at work: reads and writes, levels by hand, causes that repeat, and bodies.
 ghost use Rattle.std.specs.Prelude.{◌≡◌, length, IfOk};
 
 mod count;
+mod guarded_copy;
 
 use crate::PlainCells;
 use count::Count;
+use guarded_copy::GuardedCopy;
 use std::test::Fail;
 use stm_model::{Addr, Body, Cause, Cells, Free, HookPhase};
 
@@ -114,5 +116,31 @@ fn a_body_counts_up_to_its_most(rt: HostRuntime) -> Result<(), Fail> {
         [(HookPhase::Commit, 7)].as_slice()
     );
     assert_eq!(rt; count.run(&mut cells), Err(Cause::User { code: 1 }));
+    Ok(())
+}
+
+#[test]
+fn a_body_undoes_its_level_and_goes_on(rt: HostRuntime) -> Result<(), Fail> {
+    let mut cells = three(&rt)?;
+    let mut body = GuardedCopy {
+        from: Addr(1),
+        into: Addr(0),
+        seen: Addr(2),
+        most: 6,
+        token: 9,
+    };
+    assert_eq!(rt; body.run(&mut cells), Ok(7));
+    assert_eq!(rt; cells.written_heap()?.as_slice(), [5, 7, 7].as_slice());
+    assert_eq!(rt; cells.book.hooks.len(), 0);
+    assert_eq!(rt;
+        cells.book.runs.as_slice(),
+        [(HookPhase::Rollback, 9)].as_slice()
+    );
+    body.most = 7;
+    assert_eq!(rt; body.run(&mut cells), Ok(7));
+    assert_eq!(rt; cells.written_heap()?.as_slice(), [7, 7, 7].as_slice());
+    assert_eq!(rt; cells.book.hooks.len(), 1);
+    assert_eq!(rt; cells.saved.len(), 0);
+    assert_eq!(rt; body.late(&mut cells, 1), Ok(()));
     Ok(())
 }

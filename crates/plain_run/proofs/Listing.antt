@@ -15,7 +15,8 @@ use Rattle.ledger_model.specs.Order.{less_or_tied, stands_before}
 use Rattle.ledger_model.specs.Replays.{writers_of, rows_of, run_of, scripts_of, block_of, contents_after, NamesScript, ListsScripts, TellsWriter, TellsReader, TellsRow, InOrder, Replays}
 use Rattle.ledger_model.specs.Turns.{ComesAfter, InTurns}
 use Rattle.ledger_model.specs.Run.{Outcome, End, run}
-use Rattle.ledger_model.specs.Settle.{Settled, Commits, OnlyReads, Spends, settle, completing, handler_runs}
+use Rattle.stm_model.specs.Handlers.{completing}
+use Rattle.ledger_model.specs.Settle.{Settled, Commits, OnlyReads, Spends, settle, handler_runs}
 use Rattle.plain_run.specs.declared.turns.Progress.{Progress}
 use Rattle.plain_run.specs.Listed.{Listed, writers_after, row_of, with_run}
 use Rattle.plain_run.specs.Plain.{IsPlain}

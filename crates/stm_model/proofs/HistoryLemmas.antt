@@ -59,6 +59,20 @@ pub last_below : (history : List Entry) (n address : ℕ) → last history n add
 last_below history zero address = rw last-zero (omega arith)
 last_below history (suc n) address = below_step n _ _ _ (last_below history n address) (last-suc history n address)
 
+-- an entry that writes is one of the history
+within_step : (history : List Entry) (n address : ℕ) → writes_to (entry_after history n).writes address ≡ true → n < length history
+within_step history n address written = elim (cases_lt n (length history)) [
+  | inl less ↦ less
+  | inr past ↦ let none : writes_to (entry_after history n).writes address ≡ false = rw (get_or_past history n no_entry past) refl in cc (none, written)
+]
+
+pub last_within : (history : List Entry) (n address : ℕ) → last history n address ≤ length history
+last_within history zero address = rw last-zero (omega arith)
+last_within history (suc n) address = elim (last_cases history n address) [
+  | inl written ↦ let less = within_step history n address written.0 in omega (arith, written.1)
+  | inr other ↦ rw other.1 (last_within history n address)
+]
+
 -- it writes the cell
 pub last_writes : (history : List Entry) (n address : ℕ) → last history n address ≢ 0 → writes_to (entry_after history (last history n address - 1)).writes address ≡ true
 last_writes history zero address some = absurd (some (last-zero history address))

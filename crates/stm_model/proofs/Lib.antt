@@ -5,3 +5,6 @@ pub mod OwesLemmas
 pub mod CellsLemmas
 pub mod TellingLemmas
 pub mod RanLemmas
+pub mod AttemptLemmas
+pub mod RowsLemmas
+pub mod WholeLemmas

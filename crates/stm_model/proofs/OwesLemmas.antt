@@ -24,5 +24,5 @@ pub Owes-append : (lawful : List ℕ → Type 0) (may : List ℕ → List ℕ �
 Owes-append lawful may size notes more writes owes = λ heap possible. owes heap (IsPossible-front lawful size notes more heap possible)
 
 pub Owes-nil : (lawful : List ℕ → Type 0) (may : List ℕ → List ℕ → Type 0) (size : ℕ) (notes : List Note)
-    → ((heap : List ℕ) → may heap heap) → Owes lawful may size notes []
-Owes-nil lawful may size notes stays = λ heap possible. (possible.keeps_law, stays heap)
+    → ((heap : List ℕ) → lawful heap → may heap heap) → Owes lawful may size notes []
+Owes-nil lawful may size notes stays = λ heap possible. (possible.keeps_law, stays heap possible.keeps_law)

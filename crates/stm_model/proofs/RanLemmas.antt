@@ -4,9 +4,10 @@ use Rattle.std.specs.Prelude.{Result, Ok, Err, IfOk, IfErr, ◌⊎◌}
 use Rattle.stm_model.specs.declared.cause.Cause.{Cause}
 use Rattle.stm_model.specs.Heap.{over}
 use Rattle.stm_model.specs.Owes.{IsPossible, Owes}
-use Rattle.stm_model.specs.CellsState.{Book, CellsState, entered, kept, undone, outer, restored, undoing}
-use Rattle.stm_model.specs.Telling.{Extends, Owing, Enters, Refused, Leads}
-use Rattle.stm_model.specs.Ran.{Grows, IsDecided, IsOfBody, Ran}
+use Rattle.stm_model.specs.CellsState.{Book, CellsState, entered, kept, undone, outer, restored}
+use Rattle.stm_model.specs.Handlers.{undoing}
+use Rattle.stm_model.specs.Telling.{Changed, Extends, Owing, Enters, Refused, Leads, Writing}
+use Rattle.stm_model.specs.Ran.{Grows, IsDecided, IsOfBody, Ran, Running}
 use Rattle.stm_model.proofs.CellsLemmas.{Extends-refl, Extends-same, Extends-append, Extends-trans, IsPossible-before, Owes-later, none_before, length-outer, restored-going}
 
 pub Grows-refl : (book : Book) → Grows book book
@@ -44,6 +45,33 @@ Ran-refused lawful may means leaves fresh cause s t left refused =
       owes = λ none. cc (stopped, none);
       causes = inr stopped;
       again = λ earlier is. stopped ∙ ap Some (refused.again earlier is);
+    }
+
+-- a body that only reads and writes
+pub Ran-wrote : {T : Type 0} (lawful : List ℕ → Type 0) (may : List ℕ → List ℕ → Type 0)
+    (means : List ℕ → Book → Result T Cause → Book → Type 0) (leaves : List ℕ → Book → Type 0)
+    (step : List ℕ → List ℕ → Type 0) (out : T) (s t : CellsState)
+    → ((heap : List ℕ) (writes : List (ℕ × ℕ)) → step (over heap s.now.writes) (over heap writes) → means heap s.now (Ok out) (record s.now { writes = writes }))
+    → ((heap : List ℕ) → leaves heap s.now)
+    → Owing lawful may t → Changed lawful step s t → Ran lawful may means leaves (Ok out) s t
+Ran-wrote lawful may means leaves step out s t so left owing changed =
+    let now : t.now ≡ record s.now { writes = t.now.writes } = ap (λ (x : CellsState). x.now) changed.only_writes in
+    let saved : t.saved ≡ s.saved = ap (λ (x : CellsState). x.saved) changed.only_writes in
+    record {
+      size = ap (λ (x : CellsState). x.size) changed.only_writes;
+      reads = changed.reads;
+      saved = λ none. saved;
+      levels = let same : length t.saved ≡ length s.saved = ap length saved in omega arith;
+      grows = λ none. subst (λ book. Grows s.now book) (sym now) (record {
+        hooks = Extends-refl s.now.hooks;
+        laters = Extends-refl s.now.laters;
+        runs = Extends-refl s.now.runs;
+      });
+      whole = λ none decided heap possible. subst (λ book. means heap s.now (Ok out) book) (sym now) (so heap t.now.writes (changed.each heap possible));
+      left = λ heap possible. left heap;
+      owes = owing;
+      causes = tt;
+      again = λ earlier is. ap (λ (x : CellsState). x.cause) changed.only_writes ∙ is;
     }
 
 -- a body after another, which answered Ok
@@ -155,6 +183,19 @@ pub run_refused : {S L T : Type 0} (lawful : List ℕ → Type 0) (may : List �
     → Leads law follows state c d (Refused fresh cause) → Leads law follows state c d (Ran {T = T} lawful may means leaves (Err cause))
 run_refused lawful may law follows state means leaves fresh cause c d left p =
     record { same_law = p.same_law; goes = p.goes; states = Ran-refused lawful may means leaves fresh cause (state c) (state d) left p.states }
+
+pub run_wrote : {S L T : Type 0} (lawful : L → List ℕ → Type 0) (may : L → List ℕ → List ℕ → Type 0) (law : S → L) (follows : S → S → Type 0) (state : S → CellsState)
+    (means : List ℕ → Book → Result T Cause → Book → Type 0) (leaves : List ℕ → Book → Type 0)
+    (step : List ℕ → List ℕ → Type 0) (out : T) (c d : S)
+    → ((heap : List ℕ) (writes : List (ℕ × ℕ)) → step (over heap (state c).now.writes) (over heap writes) → means heap (state c).now (Ok out) (record (state c).now { writes = writes }))
+    → ((heap : List ℕ) → leaves heap (state c).now)
+    → Owing (lawful (law c)) (may (law c)) (state d)
+    → Writing lawful law follows state c d step → Running lawful may law follows state c d means leaves (Ok out)
+run_wrote lawful may law follows state means leaves step out c d so left owing p = record {
+  same_law = p.same_law;
+  goes = p.goes;
+  states = Ran-wrote (lawful (law c)) (may (law c)) means leaves step out (state c) (state d) so left owing p.states;
+}
 
 pub run_then : {S L T U : Type 0} (lawful : L → List ℕ → Type 0) (may : L → List ℕ → List ℕ → Type 0) (law : S → L) (follows : S → S → Type 0) (state : S → CellsState)
     → ((c d e : S) → follows c d → follows d e → follows c e)

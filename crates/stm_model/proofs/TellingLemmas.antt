@@ -8,21 +8,21 @@ use Rattle.stm_model.specs.declared.note.Note.{Note}
 use Rattle.stm_model.specs.Heap.{over, put}
 use Rattle.stm_model.specs.Owes.{IsPossible}
 use Rattle.stm_model.specs.CellsState.{CellsState, written}
-use Rattle.stm_model.specs.Telling.{Extends, Witness, Got, IsNewNote, Does, Refused, Leads, Learned, Changed, Cut, AddsAtMost, Reading, Writing, Stopping, Knows, StaysLawful}
+use Rattle.stm_model.specs.Telling.{Extends, Witness, Got, IsAtHand, IsNewNote, Does, Refused, Leads, Learned, Changed, Cut, AddsAtMost, Reading, Writing, Stopping, Knows, StaysLawful}
 use Rattle.stm_model.proofs.HeapLemmas.{over-put}
 use Rattle.stm_model.proofs.CellsLemmas.{Extends-refl, Extends-same, Extends-trans, IsPossible-before, length-put}
 
 -- ---- between states
 
-got_reads : (reads notes : List Note) (P : Note → Type 0) → (notes ≡ reads) ⊎ ((note : Note) × P note × (notes ≡ reads ++ note ∷ [])) → Extends reads notes
-got_reads reads notes P (inl same) = Extends-same reads notes same
-got_reads reads notes P (inr new) = (new.0 ∷ [], new.2)
+got_reads : (reads notes : List Note) (A : Type 0) (P : Note → Type 0) → (A × (notes ≡ reads)) ⊎ ((note : Note) × P note × (notes ≡ reads ++ note ∷ [])) → Extends reads notes
+got_reads reads notes A P (inl same) = Extends-same reads notes same.1
+got_reads reads notes A P (inr new) = (new.0 ∷ [], new.2)
 
 pub learned_got : (lawful : List ℕ → Type 0) (address value : ℕ) (s t : CellsState) → Got lawful address value s t
     → Learned lawful (λ heap. get_or heap address 0 ≡ value) s t
 learned_got lawful address value s t got = record {
   only_reads = got.only_reads;
-  reads = got_reads s.reads t.reads (IsNewNote address s) got.noted;
+  reads = got_reads s.reads t.reads (IsAtHand address s) (IsNewNote address value s) got.noted;
   each = got.told;
 }
 
@@ -99,14 +99,14 @@ cut_later lawful step cause s t u p q = record {
 
 -- ---- how many notes and writes
 
-adds_note : (reads notes : List Note) (P : Note → Type 0) → (notes ≡ reads) ⊎ ((note : Note) × P note × (notes ≡ reads ++ note ∷ [])) → length notes ≤ length reads + 1
-adds_note reads notes P (inl same) = let e : length notes ≡ length reads = ap length same in omega arith
-adds_note reads notes P (inr new) = let e : length notes ≡ length reads + 1 = ap length new.2 ∙ length-append reads (new.0 ∷ []) in omega arith
+adds_note : (reads notes : List Note) (A : Type 0) (P : Note → Type 0) → (A × (notes ≡ reads)) ⊎ ((note : Note) × P note × (notes ≡ reads ++ note ∷ [])) → length notes ≤ length reads + 1
+adds_note reads notes A P (inl same) = let e : length notes ≡ length reads = ap length same.1 in omega arith
+adds_note reads notes A P (inr new) = let e : length notes ≡ length reads + 1 = ap length new.2 ∙ length-append reads (new.0 ∷ []) in omega arith
 
 pub adds_got : (lawful : List ℕ → Type 0) (address value : ℕ) (s t : CellsState) → Got lawful address value s t → AddsAtMost 1 s t
 adds_got lawful address value s t got =
     let same : t.now.writes ≡ s.now.writes = ap (λ (x : CellsState). x.now.writes) got.only_reads in
-    let most = adds_note s.reads t.reads (IsNewNote address s) got.noted in
+    let most = adds_note s.reads t.reads (IsAtHand address s) (IsNewNote address value s) got.noted in
     let writes : length t.now.writes ≡ length s.now.writes = ap length same in omega arith
 
 pub adds_written : (address value : ℕ) (s t : CellsState) → Does (written address value) s t → AddsAtMost 1 s t

@@ -1,17 +1,17 @@
 -- What cells tell of an attempt, and what each call makes of it.
-use Rattle.std.specs.Prelude.{ℕ, Bool, true, false, List, [], ◌∷◌, ◌++◌, length, drop, filter, reverse, Option, Some, None}
+use Rattle.std.specs.Prelude.{ℕ, List, [], ◌∷◌, ◌++◌, length, drop, Option, Some, None}
 use Rattle.stm_model.specs.declared.cause.Cause.{Cause}
 use Rattle.stm_model.specs.declared.cause.HookPhase.{HookPhase}
-use Rattle.stm_model.specs.declared.cause.HookPhase.TheVariants.{Rollback, Completion}
 use Rattle.stm_model.specs.declared.note.Note.{Note}
+use Rattle.stm_model.specs.Handlers.{Handlers, undoing}
 use Rattle.stm_model.specs.Heap.{put}
 
 -- what is written, which handlers and which late bodies are registered, and which handlers have run where something was undone
 pub record Book : Type 0 where
   pub writes : List (ℕ × ℕ)
-  pub hooks : List (HookPhase × ℕ)
+  pub hooks : Handlers
   pub laters : List ℕ
-  pub runs : List (HookPhase × ℕ)
+  pub runs : Handlers
 
 -- nothing is written or registered, and nothing has run
 abbrev pub empty_book : Book
@@ -49,20 +49,20 @@ outer (book ∷ books) = books
 abbrev pub kept : CellsState → CellsState
 kept state = record state { saved = outer state.saved }
 
--- handlers of these phases run where something is undone
-abbrev pub is_undoing : HookPhase → Bool
-is_undoing Rollback = true
-is_undoing Completion = true
-is_undoing _ = false
+-- the handlers that were registered in the innermost level and run where it is undone
+abbrev pub level_runs : List Book → Book → Handlers
+level_runs [] now = []
+level_runs (former ∷ books) now = undoing (drop (length former.hooks) now.hooks)
 
--- those that run where these are undone, the last first
-abbrev pub undoing : List (HookPhase × ℕ) → List (HookPhase × ℕ)
-undoing hooks = reverse (filter (λ hook. is_undoing hook.0) hooks)
+-- the book as it was where the innermost level began, but for the runs so far
+abbrev pub returned : List Book → Book → Book
+returned [] now = now
+returned (former ∷ books) now = record former { runs = now.runs }
 
--- The book as it was where the innermost level began, but for the runs: the handlers that were registered since have run.
+-- The same once the level's handlers have run.
 abbrev pub restored : List Book → Book → Book
 restored [] now = now
-restored (former ∷ books) now = record former { runs = now.runs ++ undoing (drop (length former.hooks) now.hooks) }
+restored (former ∷ books) now = record former { runs = now.runs ++ level_runs (former ∷ books) now }
 
 -- the same, where no cause was answered
 abbrev pub restored_unless : Option Cause → List Book → Book → Book

@@ -4,7 +4,7 @@ use Rattle.stm_model.specs.declared.cause.Cause.{Cause}
 use Rattle.stm_model.specs.declared.cause.Cause.TheVariants.{Retry, User, Full, Memory}
 use Rattle.stm_model.specs.CellsState.{Book, CellsState}
 use Rattle.stm_model.specs.Owes.{IsPossible, Owes}
-use Rattle.stm_model.specs.Telling.{Extends}
+use Rattle.stm_model.specs.Telling.{Extends, Leads}
 
 -- the causes that a body answers of its own
 abbrev pub IsOfBody : Cause → Type 0
@@ -41,3 +41,10 @@ pub record Ran {T : Type 0} (lawful : List ℕ → Type 0) (may : List ℕ → L
   pub owes : after.cause ≡ None → IfOk answer (λ out. Owes lawful may after.size after.reads after.now.writes)
   pub causes : IfErr answer (λ cause. IsOfBody cause ⊎ (after.cause ≡ Some cause))
   pub again : (earlier : Cause) → before.cause ≡ Some earlier → after.cause ≡ Some earlier
+
+-- From one moment of the cells to another a body ran, with this answer.
+abbrev pub Running : {S L T : Type 0} → (L → List ℕ → Type 0) → (L → List ℕ → List ℕ → Type 0)
+    → (S → L) → (S → S → Type 0) → (S → CellsState) → S → S
+    → (List ℕ → Book → Result T Cause → Book → Type 0) → (List ℕ → Book → Type 0) → Result T Cause → Type 0
+Running lawful may law follows state before after means leaves answer =
+    Leads law follows state before after (Ran (lawful (law before)) (may (law before)) means leaves answer)

@@ -1,11 +1,17 @@
 -- With which causes cells refuse a call.
-use Rattle.std.specs.Prelude.{◌≡◌, ℕ, ◌<◌, ◌≤◌, ◌⊎◌}
+use Rattle.std.specs.Prelude.{◌≡◌, ◌≢◌, ℕ, ◌<◌, ◌≤◌, ◌⊎◌, false, List}
+use Rattle.std.specs.List.{All, Any}
+use Rattle.stm_model.specs.declared.cause.Addr.{Addr}
 use Rattle.stm_model.specs.declared.cause.Cause.{Cause}
 use Rattle.stm_model.specs.declared.cause.Cause.TheVariants.{ReadConflict, Moved, Stale, WriteConflict, TooDeep, Memory}
+use Rattle.stm_model.specs.declared.marks.TheConstants.{DEEPEST}
+use Rattle.stm_model.specs.declared.note.Note.{Note}
+use Rattle.stm_model.specs.CellsState.{CellsState}
+use Rattle.stm_model.specs.Heap.{writes_to}
 
 -- How deep levels nest.
 abbrev pub deepest : ℕ
-deepest = 64
+deepest = DEEPEST
 
 -- The causes that cells answer. All others come from a body or from the end of an attempt.
 abbrev pub IsOfCells : Cause → Type 0
@@ -17,23 +23,45 @@ IsOfCells (TooDeep depth) = depth ≡ deepest
 IsOfCells Memory = Unit {0}
 IsOfCells _ = ⊥
 
--- A read of this cell is refused where another changes the cell or has changed it meanwhile, or where a noted cell is stale.
-abbrev pub RefusesRead : ℕ → Cause → Type 0
-RefusesRead address (ReadConflict cell meta) = cell.0 ≡ address
-RefusesRead address (Moved cell first second) = cell.0 ≡ address
-RefusesRead address (Stale cell version meta) = Unit {0}
-RefusesRead address Memory = Unit {0}
-RefusesRead address _ = ⊥
+-- One of the notes is of this cell, at this version.
+abbrev pub NotesVersion : List Note → Addr → ℕ → Type 0
+NotesVersion reads cell version = Any (λ note. (note.addr ≡ cell) × (note.version ≡ version)) reads
 
--- A write of this cell is refused where another owns the cell or has changed it meanwhile, or where its own note is stale.
-abbrev pub RefusesWrite : ℕ → Cause → Type 0
-RefusesWrite address (WriteConflict cell meta) = cell.0 ≡ address
-RefusesWrite address (Moved cell first second) = cell.0 ≡ address
-RefusesWrite address (Stale cell version meta) = cell.0 ≡ address
-RefusesWrite address Memory = Unit {0}
-RefusesWrite address _ = ⊥
+-- The cell is neither written nor noted.
+pub record IsAway (address : ℕ) (state : CellsState) : Type 0 where
+  pub unwritten : writes_to state.now.writes address ≡ false
+  pub unnoted : All (λ note. note.addr.0 ≢ address) state.reads
+
+-- the causes of a read of this cell: another changes it or has changed it meanwhile, or one of the notes is stale
+abbrev pub IsOfRead : List Note → ℕ → Cause → Type 0
+IsOfRead reads address (ReadConflict cell meta) = cell.0 ≡ address
+IsOfRead reads address (Moved cell first second) = cell.0 ≡ address
+IsOfRead reads address (Stale cell version meta) = NotesVersion reads cell version
+IsOfRead reads address Memory = Unit {0}
+IsOfRead reads address _ = ⊥
+
+-- A read of a cell is refused with one of these causes, and only where it is neither written nor noted.
+pub record RefusesRead (state : CellsState) (address : ℕ) (cause : Cause) : Type 0 where
+  pub away : IsAway address state
+  pub is : IsOfRead state.reads address cause
+
+-- the causes of a first write of this cell: another owns it or has changed it meanwhile, or its own note is stale
+abbrev pub IsOfWrite : List Note → ℕ → Cause → Type 0
+IsOfWrite reads address (WriteConflict cell meta) = cell.0 ≡ address
+IsOfWrite reads address (Moved cell first second) = cell.0 ≡ address
+IsOfWrite reads address (Stale cell version meta) = (cell.0 ≡ address) × NotesVersion reads cell version
+IsOfWrite reads address _ = ⊥
+
+-- A write of a cell is refused with one of these causes, and only where it is not written yet, or for want of memory.
+abbrev pub RefusesWrite : CellsState → ℕ → Cause → Type 0
+RefusesWrite state address cause =
+    ((writes_to state.now.writes address ≡ false) × IsOfWrite state.reads address cause) ⊎ (cause ≡ Memory)
 
 -- A level is refused for its depth exactly where so many are open that no further one may be.
 abbrev pub RefusesLevel : ℕ → Cause → Type 0
 RefusesLevel open_levels cause =
     ((deepest ≤ open_levels) × (cause ≡ TooDeep deepest)) ⊎ ((open_levels < deepest) × (cause ≡ Memory))
+
+-- The registration of a handler or of a late body is refused for want of memory alone.
+abbrev pub RefusesRegistration : Cause → Type 0
+RefusesRegistration cause = cause ≡ Memory

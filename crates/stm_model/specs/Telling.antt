@@ -1,12 +1,12 @@
 -- What calls of cells tell: from the state before to the state after.
-use Rattle.std.specs.Prelude.{◌≡◌, ◌≢◌, ℕ, ◌+◌, ◌<◌, ◌≤◌, ◌⊎◌, false, List, [], ◌∷◌, ◌++◌, length, slice_index, Some, None}
-use Rattle.std.specs.List.{All}
+use Rattle.std.specs.Prelude.{◌≡◌, ℕ, ◌+◌, ◌<◌, ◌≤◌, ◌⊎◌, true, List, [], ◌∷◌, ◌++◌, length, slice_index, Some, None}
+use Rattle.std.specs.List.{Any}
 use Rattle.stm_model.specs.declared.cause.Cause.{Cause}
 use Rattle.stm_model.specs.declared.note.Note.{Note}
 use Rattle.stm_model.specs.Heap.{over, writes_to}
 use Rattle.stm_model.specs.Owes.{IsPossible, Owes}
 use Rattle.stm_model.specs.CellsState.{CellsState, entered}
-use Rattle.stm_model.specs.Refusing.{deepest}
+use Rattle.stm_model.specs.Refusing.{IsAway, deepest}
 
 -- the list, with more behind it
 abbrev pub Extends : {T : Type 0} → List T → List T → Type 0
@@ -22,17 +22,22 @@ Owing lawful may state = state.cause ≡ None → Owes lawful may state.size sta
 
 -- ---- single calls
 
--- A note that a read of this cell made. The cell was neither written nor noted before.
-pub record IsNewNote (address : ℕ) (before : CellsState) (note : Note) : Type 0 where
-  pub cell : note.addr.0 ≡ address
-  pub unwritten : writes_to before.now.writes address ≡ false
-  pub unnoted : All (λ other. other.addr.0 ≢ address) before.reads
+-- The cell is written or noted.
+abbrev pub IsAtHand : ℕ → CellsState → Type 0
+IsAtHand address state = (writes_to state.now.writes address ≡ true) ⊎ Any (λ note. note.addr.0 ≡ address) state.reads
 
--- A read told the cell's value: what the cell holds under the writes, in each heap that is possible by the notes. It made one note or none, and changed nothing else.
+-- A note that a read of this cell with this value made. The cell was neither written nor noted before.
+pub record IsNewNote (address told : ℕ) (before : CellsState) (note : Note) : Type 0 where
+  pub cell : note.addr.0 ≡ address
+  pub value : note.value ≡ told
+  pub away : IsAway address before
+
+-- A read told the cell's value: what the cell holds under the writes, in each heap that is possible by the notes. It made no note of a cell that was at hand, and else one note, of that value. It changed nothing else.
 pub record Got (lawful : List ℕ → Type 0) (address value : ℕ) (before after : CellsState) : Type 0 where
   pub going : before.cause ≡ None
   pub only_reads : after ≡ record before { reads = after.reads }
-  pub noted : (after.reads ≡ before.reads) ⊎ ((note : Note) × IsNewNote address before note × (after.reads ≡ before.reads ++ note ∷ []))
+  pub noted : (IsAtHand address before × (after.reads ≡ before.reads))
+      ⊎ ((note : Note) × IsNewNote address value before note × (after.reads ≡ before.reads ++ note ∷ []))
   pub told : (heap : List ℕ) → IsPossible lawful before.size after.reads heap → slice_index (over heap before.now.writes) address ≡ value
 
 -- A call did what it does, since no cause had been answered.

@@ -38,7 +38,7 @@ pub enum Ask {
     Set(Addr, u64),
     /// To open a nested level.
     Enter,
-    /// To join the innermost level to the one around it.
+    /// To close the innermost level and let what it did belong to the one around it.
     Keep,
     /// To undo the innermost level.
     Undo,

@@ -1,8 +1,8 @@
 //! What runs on cells: the body of a transaction, and the alternatives of a choice.
-ghost use Rattle.std.specs.Prelude.{◌≡◌, ◌<◌, ℕ, List, Result};
+ghost use Rattle.std.specs.Prelude.{◌≡◌, ◌↔◌, ◌<◌, ℕ, List, Result};
 ghost use Rattle.stm_model.specs.CellsState.{Book};
-ghost use Rattle.stm_model.specs.Ran.{Ran};
-ghost use Rattle.stm_model.specs.Telling.{Leads, Owing};
+ghost use Rattle.stm_model.specs.Ran.{Running};
+ghost use Rattle.stm_model.specs.Telling.{Owing};
 ghost use Rattle.stm_model.specs.declared.cause.Cause.{Cause};
 
 use crate::{Cause, Cells, Law};
@@ -28,23 +28,21 @@ pub trait Body<L: Law> {
     fn run<C: Cells<L>>(&mut self, cells: &mut C) -> Result<Self::Out, Cause>
         requires fits { fits self.old (C.law cells.old) (C.state cells.old).size }
         requires owes { Owing (L.lawful (C.law cells.old)) (L.may (C.law cells.old)) (C.state cells.old) }
-        ensures fits { fits self.new (C.law cells.old) (C.state cells.old).size }
-        ensures ran { Leads C.law C.follows C.state cells.old cells.new
-            (Ran (L.lawful (C.law cells.old)) (L.may (C.law cells.old))
+        ensures fits { (law : L) (size : ℕ) → fits self.old law size ↔ fits self.new law size }
+        ensures ran { Running L.lawful L.may C.law C.follows C.state cells.old cells.new
             (λ heap before answer after. means self.old heap before answer after self.new)
             (λ heap before. leaves self.old heap before self.new)
-            result) };
+            result };
 
     /// What `run` put off under this token.
     fn late<C: Cells<L>>(&mut self, cells: &mut C, token: u64) -> Result<(), Cause>
         requires fits { fits self.old (C.law cells.old) (C.state cells.old).size }
         requires owes { Owing (L.lawful (C.law cells.old)) (L.may (C.law cells.old)) (C.state cells.old) }
-        ensures fits { fits self.new (C.law cells.old) (C.state cells.old).size }
-        ensures ran { Leads C.law C.follows C.state cells.old cells.new
-            (Ran (L.lawful (C.law cells.old)) (L.may (C.law cells.old))
+        ensures fits { (law : L) (size : ℕ) → fits self.old law size ↔ fits self.new law size }
+        ensures ran { Running L.lawful L.may C.law C.follows C.state cells.old cells.new
             (λ heap before answer after. late_means self.old token heap before answer after self.new)
             (λ heap before. late_leaves self.old token heap before self.new)
-            result) };
+            result };
 }
 
 /// Alternatives, of which the first that doesn't ask for a retry is taken.
@@ -71,10 +69,9 @@ pub trait Choices<L: Law> {
         requires fits { fits self.old (C.law cells.old) (C.state cells.old).size }
         requires owes { Owing (L.lawful (C.law cells.old)) (L.may (C.law cells.old)) (C.state cells.old) }
         ensures number { number self.new ≡ number self.old }
-        ensures fits { fits self.new (C.law cells.old) (C.state cells.old).size }
-        ensures ran { Leads C.law C.follows C.state cells.old cells.new
-            (Ran (L.lawful (C.law cells.old)) (L.may (C.law cells.old))
+        ensures fits { (law : L) (size : ℕ) → fits self.old law size ↔ fits self.new law size }
+        ensures ran { Running L.lawful L.may C.law C.follows C.state cells.old cells.new
             (λ heap before answer after. means self.old index heap before answer after self.new)
             (λ heap before. leaves self.old index heap before self.new)
-            result) };
+            result };
 }

@@ -1,14 +1,13 @@
 //! What a body sees of the cells: reads and writes in nested levels, handlers, and bodies for later.
-ghost use Rattle.std.specs.Prelude.{◌≡◌, ◌<◌, ℕ, length, IfSome, MatchResult};
+ghost use Rattle.std.specs.Prelude.{◌≡◌, ◌<◌, ◌≤◌, ℕ, length, IfSome, MatchResult};
 ghost use Rattle.stm_model.specs.CellsState.{CellsState, delayed, hooked, kept, undone, written};
-ghost use Rattle.stm_model.specs.Refusing.{IsOfCells, RefusesLevel, RefusesRead, RefusesWrite};
+ghost use Rattle.stm_model.specs.Refusing.{IsOfCells, RefusesLevel, RefusesRead, RefusesRegistration, RefusesWrite, deepest};
 ghost use Rattle.stm_model.specs.Telling.{Does, Enters, Got, Leads, Refused, Witness};
-ghost use Rattle.stm_model.specs.declared.cause.Cause.TheVariants.{Memory};
 
 use crate::{Addr, Cause, HookPhase, Law};
 
-/// The cells of an attempt. Once a call has answered a cause, each later one that can answer a cause
-/// answers the same.
+/// The cells of an attempt. A cause stays: whatever is called after it, each call that may be refused
+/// is refused with that cause.
 pub trait Cells<L: Law> {
     /// The law that all committed heaps keep.
     ghost law: { Self → L };
@@ -27,21 +26,21 @@ pub trait Cells<L: Law> {
         requires { addr.0 < (state self.old).size }
         ensures { MatchResult result
             (λ value. Leads law follows state self.old self.new (Got (L.lawful (law self.old)) addr.0 value))
-            (λ cause. Leads law follows state self.old self.new (Refused (RefusesRead addr.0) cause)) };
+            (λ cause. Leads law follows state self.old self.new (Refused (RefusesRead (state self.old) addr.0) cause)) };
 
     fn set(&mut self, addr: Addr, value: u64) -> Result<(), Cause>
         requires { addr.0 < (state self.old).size }
         ensures { MatchResult result
             (λ _. Leads law follows state self.old self.new (Does (written addr.0 value)))
-            (λ cause. Leads law follows state self.old self.new (Refused (RefusesWrite addr.0) cause)) };
+            (λ cause. Leads law follows state self.old self.new (Refused (RefusesWrite (state self.old) addr.0) cause)) };
 
-    /// Opens a level. At most 64 are open.
+    /// Opens a level. At most `DEEPEST` are open.
     fn enter(&mut self) -> Result<(), Cause>
         ensures { MatchResult result
             (λ _. Leads law follows state self.old self.new Enters)
             (λ cause. Leads law follows state self.old self.new (Refused (RefusesLevel (length (state self.old).saved)) cause)) };
 
-    /// Joins the innermost level to the one around it.
+    /// Closes the innermost level. What it wrote and registered belongs to the level around it.
     fn keep(&mut self)
         requires { 0 < length (state self.old).saved }
         ensures { Leads law follows state self.old self.new (λ before after. after ≡ kept before) };
@@ -55,13 +54,13 @@ pub trait Cells<L: Law> {
     fn hook(&mut self, phase: HookPhase, token: u64) -> Result<(), Cause>
         ensures { MatchResult result
             (λ _. Leads law follows state self.old self.new (Does (hooked phase token)))
-            (λ cause. Leads law follows state self.old self.new (Refused (λ fresh. fresh ≡ Memory) cause)) };
+            (λ cause. Leads law follows state self.old self.new (Refused RefusesRegistration cause)) };
 
     /// Registers a body that runs before the commit, by its token.
     fn later(&mut self, token: u64) -> Result<(), Cause>
         ensures { MatchResult result
             (λ _. Leads law follows state self.old self.new (Does (delayed token)))
-            (λ cause. Leads law follows state self.old self.new (Refused (λ fresh. fresh ≡ Memory) cause)) };
+            (λ cause. Leads law follows state self.old self.new (Refused RefusesRegistration cause)) };
 
     ghost follows_refl: { (cells : Self) → follows cells cells };
 
@@ -72,4 +71,7 @@ pub trait Cells<L: Law> {
 
     /// The cause is one that cells answer.
     ghost answered: { (cells : Self) → IfSome (state cells).cause IsOfCells };
+
+    /// At most `DEEPEST` levels are open.
+    ghost deep: { (cells : Self) → length (state cells).saved ≤ deepest };
 }

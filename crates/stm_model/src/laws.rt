@@ -57,6 +57,7 @@ pub fn the_past_stays()
 /// no later one up to there does. It is 0 where none does.
 pub fn the_last_writer_writes_last()
     ensures bound { (history : List Entry) (n address : ℕ) → last history n address ≤ n }
+    ensures within { (history : List Entry) (n address : ℕ) → last history n address ≤ length history }
     ensures writes { (history : List Entry) (n address : ℕ) → last history n address ≢ 0 →
         IsTrue (writes_to (entry_after history (last history n address - 1)).writes address) }
     ensures no_later { (history : List Entry) (n address k : ℕ) → last history n address ≤ k → k < n →

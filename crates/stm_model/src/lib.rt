@@ -2,10 +2,12 @@
 #![tactic(auto)]
 
 mod access;
+pub mod attempt_laws;
 mod body;
 mod calls;
 mod cause;
 mod cells;
+mod ending;
 mod kept_calls;
 mod law;
 pub mod laws;
@@ -13,8 +15,10 @@ mod marks;
 mod note;
 mod notes;
 mod pairs;
+pub mod rows;
 mod series;
 mod settings;
+mod shown;
 mod values;
 mod word_value;
 
@@ -23,15 +27,17 @@ pub use body::{Body, Choices};
 pub use calls::{Bell, Hooks, Quiet};
 pub use cause::{Addr, Cause, HookPhase};
 pub use cells::Cells;
+pub use ending::Ending;
 pub use kept_calls::KeptCalls;
 pub use law::{Free, Law};
-pub use marks::{Level, WriteMark};
+pub use marks::{DEEPEST, Level, WriteMark};
 pub use meta_word::{Meta, Phase, Policy, TxnStatus};
 pub use note::Note;
 pub use notes::Notes;
 pub use pairs::Pairs;
 pub use series::{Memory, Series};
 pub use settings::Settings;
+pub use shown::{Rest, Shown};
 pub use values::{Runs, Values, Words};
 pub use word_value::WordValue;
 

@@ -1,4 +1,7 @@
-//! Marks to go back to, taken where a nested level is entered.
+//! Nested levels: how deep they nest, and marks to go back to, taken where one is entered.
+
+/// How many levels may be open at once.
+pub const DEEPEST: u32 = 64;
 
 /// How far a buffer of writes had come.
 #[derive(Clone, Copy, Debug, PartialEq, Eq)]

@@ -1,5 +1,5 @@
 use Rattle.std.proofs.Common.{◌≡◌, ◌+◌, ◌≤◌, ◌++◌, drop, length, vec_capacity}
-use Rattle.stm_model.specs.CellsState.{undoing}
+use Rattle.stm_model.specs.Handlers.{undoing}
 use Rattle.plain_cells.proofs.book.undo_hooks.Given as goal
 
 abbrev pub invariant-loop-book : goal.invariant-loop-book

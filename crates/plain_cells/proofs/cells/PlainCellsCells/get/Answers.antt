@@ -1,36 +1,41 @@
-use Rattle.std.proofs.Common.{◌≡◌, ◌≢◌, ◌++◌, ◌∷◌, [], None, Some, rules, refl, ◌∙◌, inl, inr}
-use Rattle.std.specs.List.{All}
-use Rattle.stm_model.proofs.HeapLemmas.{over_other}
-use Rattle.plain_cells.specs.Book.{value_in}
-use Rattle.plain_cells.proofs.Writes.{over-value_in, unwritten}
-use Rattle.plain_cells.proofs.Notes.{Agrees-last}
+use Rattle.std.proofs.Common.{◌≡◌, ◌≢◌, ◌++◌, ◌∷◌, [], false, None, Some, is_some, nat_eq, rules, refl, ap, ◌∙◌, inl, inr}
+use Rattle.std.specs.List.{All, Any}
+use Rattle.std.specs.Map.{lookup}
+use Rattle.stm_model.specs.Heap.{writes_to}
+use Rattle.stm_model.proofs.HeapLemmas.{over_found, over_other, writes_to-lookup}
+use Rattle.plain_cells.proofs.Notes.{Agrees-last, Agrees-noted, noted_cell}
 use Rattle.plain_cells.proofs.cells.PlainCellsCells.get.Goals as goal
 
 pub returns-in-Some-buffered : goal.returns-in-Some-buffered
 returns-in-Some-buffered g c =
-    let is : value_in c.args.self.now.book.writes.items c.args.addr.0 ≡ Some c.in-Some-buffered.value = search rules in
+    let writes = c.args.self.now.book.writes.items in
+    let is : lookup (nat_eq c.args.addr.0) writes ≡ Some c.in-Some-buffered.value = search rules in
     record {
       same_law = refl;
       goes = (refl, refl);
       states = record {
         going = search rules;
         only_reads = refl;
-        noted = inl refl;
-        told = λ heap possible. over-value_in heap c.args.self.now.book.writes.items c.args.addr.0 c.in-Some-buffered.value (rw possible.cells c.requires) is;
+        noted = inl (inl (writes_to-lookup writes c.args.addr.0 ∙ ap is_some is), refl);
+        told = λ heap possible. over_found heap writes c.args.addr.0 c.in-Some-buffered.value (rw possible.cells c.requires) is;
       };
     }
 
 pub returns-in-Some-noted : goal.returns-in-Some-noted
 returns-in-Some-noted g c =
-    let is : value_in c.args.self.now.book.writes.items c.args.addr.0 ≡ None = search rules in
+    let writes = c.args.self.now.book.writes.items in
+    let is : lookup (nat_eq c.args.addr.0) writes ≡ None = search rules in
+    let unwritten : writes_to writes c.args.addr.0 ≡ false = writes_to-lookup writes c.args.addr.0 ∙ ap is_some is in
+    let noted : Any (λ note. (note.addr.0 ≡ c.args.addr.0) × (note.value ≡ c.in-Some-noted.value)) c.args.self.now.notes.items =
+    rw c.as_slice-2.ensures.value at c.in-Some-noted.ensures in
     record {
       same_law = refl;
       goes = (refl, refl);
       states = record {
         going = search rules;
         only_reads = refl;
-        noted = inl refl;
-        told = λ heap possible. over_other heap _ _ (unwritten c.args.self.now.book.writes.items c.args.addr.0 is) ∙ c.in-Some-noted.ensures heap (rw c.as_slice-2.ensures.value possible.agrees);
+        noted = inl (inr (noted_cell _ _ _ noted), refl);
+        told = λ heap possible. over_other heap _ _ unwritten ∙ Agrees-noted _ _ _ heap noted possible.agrees;
       };
     }
 
@@ -44,21 +49,40 @@ invariant_of-self g c = let cells = c.args.self.now in
       room = cells.room;
       depth = cells.depth;
       nested = cells.nested;
-      answer = tt;
+      answer = rw c.refuse.ensures.kept tt;
     }
 
 pub returns : goal.returns
 returns g c =
-    let is : value_in c.args.self.now.book.writes.items c.args.addr.0 ≡ None = search rules in
-    let more : c.push.new.self.items ≡ c.args.self.now.notes.items ++ record { addr = c.args.addr; version = 0; value = c.index-value.result.now } ∷ [] = search rules in
-    let none : All (λ note. note.addr.0 ≢ c.args.addr.0) c.args.self.now.notes.items = rw c.as_slice-2.ensures.value at c.in_default-noted.ensures in
+    let writes = c.args.self.now.book.writes.items in
+    let notes = c.args.self.now.notes.items in
+    let is : lookup (nat_eq c.args.addr.0) writes ≡ None = search rules in
+    let unwritten : writes_to writes c.args.addr.0 ≡ false = writes_to-lookup writes c.args.addr.0 ∙ ap is_some is in
+    let more : c.push.new.self.items ≡ notes ++ record { addr = c.args.addr; version = 0; value = c.index-value.result.now } ∷ [] = search rules in
+    let none : All (λ note. note.addr.0 ≢ c.args.addr.0) notes = rw c.as_slice-2.ensures.value at c.in_default-noted.ensures in
     record {
       same_law = refl;
       goes = (refl, refl);
       states = record {
         going = search rules;
         only_reads = refl;
-        noted = inr (_, record { cell = refl; unwritten = unwritten c.args.self.now.book.writes.items c.args.addr.0 is; unnoted = none }, more);
-        told = λ heap possible. over_other heap _ _ (unwritten c.args.self.now.book.writes.items c.args.addr.0 is) ∙ Agrees-last c.args.self.now.notes.items _ heap (rw more at possible.agrees);
+        noted = inr (_, record { cell = refl; value = refl; away = record { unwritten = unwritten; unnoted = none } }, more);
+        told = λ heap possible. over_other heap _ _ unwritten ∙ Agrees-last notes _ heap (rw more at possible.agrees);
+      };
+    }
+
+pub returns-in-Err : goal.returns-in-Err
+returns-in-Err g c =
+    let writes = c.args.self.now.book.writes.items in
+    let is : lookup (nat_eq c.args.addr.0) writes ≡ None = search rules in
+    let unwritten : writes_to writes c.args.addr.0 ≡ false = writes_to-lookup writes c.args.addr.0 ∙ ap is_some is in
+    let none : All (λ note. note.addr.0 ≢ c.args.addr.0) c.args.self.now.notes.items = rw c.as_slice-2.ensures.value at c.in_default-noted.ensures in
+    record {
+      same_law = refl;
+      goes = (refl, refl);
+      states = record {
+        is = search rules;
+        again = search rules;
+        first = λ going. record { away = record { unwritten = unwritten; unnoted = none }; is = rw c.refuse.ensures.gives tt };
       };
     }

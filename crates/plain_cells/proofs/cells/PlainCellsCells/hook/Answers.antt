@@ -13,7 +13,7 @@ invariant_of-self g c = let cells = c.args.self.now in
       room = c.in-Err.ensures.room;
       depth = cells.depth;
       nested = Nest-more _ _ cells.saved.items (omega arith) cells.nested;
-      answer = tt;
+      answer = rw c.refuse.ensures.kept tt;
     }
 
 pub invariant_of-self-in_default-add_hook : goal.invariant_of-self-in_default-add_hook

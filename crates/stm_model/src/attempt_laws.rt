@@ -1,0 +1,98 @@
+//! The laws of attempts. Each function does nothing: its clauses are theorems.
+ghost use Rattle.std.specs.Prelude.{◌≡◌, ◌<◌, ◌↔◌, ◌⊎◌, ◌++◌, ◌∷◌, [], ℕ, Bool, List, nat_eq, Ok, Option, Some, None, length, replicate, IsTrue};
+ghost use Rattle.stm_model.specs.declared.access.Ask.TheVariants.{Abandon, Enter, Finish, Get, Hook, Keep, Later, Set, Undo};
+ghost use Rattle.std.specs.Map.{lookup};
+ghost use Rattle.meta_word.specs.Meta.{still_has};
+ghost use Rattle.meta_word.specs.declared.meta.Meta.{Meta};
+ghost use Rattle.stm_model.specs.declared.cause.Addr.{Addr};
+ghost use Rattle.stm_model.specs.declared.note.Note.{Note};
+ghost use Rattle.stm_model.specs.declared.cause.Cause.{Cause};
+ghost use Rattle.stm_model.specs.declared.cause.HookPhase.{HookPhase};
+ghost use Rattle.stm_model.specs.declared.access.Ask.{Ask};
+ghost use Rattle.stm_model.specs.Accesses.{Answer, addr_of, next};
+ghost use Rattle.stm_model.specs.After.{after, answer_with, give_back_on, looked_twice, note_of, owning, ring_if, rolled, run_all, same_meta};
+ghost use Rattle.stm_model.specs.Attempt.{Attempt, Ended, Ready, cause_at, cells_of};
+ghost use Rattle.stm_model.specs.CellsState.{Book, empty_book, delayed, entered, hooked, kept, undone, written};
+ghost use Rattle.stm_model.specs.Handlers.{Handlers};
+ghost use Rattle.stm_model.specs.Heap.{writes_to};
+ghost use Rattle.stm_model.specs.Moves.{AwaitsAskAt, Does, EndsLate, IsCall, Takes, moved, moved_on};
+ghost use Rattle.stm_model.specs.Refusing.{deepest};
+ghost use Rattle.stm_model.specs.Whole.{Whole};
+
+use crate::{Body, Law};
+
+/// An attempt makes no access exactly where a handler or a ring is due, where it waits to be asked, and
+/// where it is over. Whoever is over stays as it is.
+pub fn who_makes_no_access()
+    ensures exactly { (t : Attempt) → next t ≡ None ↔ ((0 < length t.due) ⊎ AwaitsAskAt t.stage ⊎ (t.stage ≡ Ended)) }
+    ensures over { (t : Attempt) (answer : Answer) → t.stage ≡ Ended → after t answer ≡ t }
+{}
+
+/// What an attempt makes of an ask, where it wasn't refused anything, is what the call makes of the
+/// cells that a body sees. A buffered cell is read and written anew at once, and a noted one read; the
+/// first read and the first write of a cell take accesses.
+pub fn asks_are_calls_of_cells()
+    ensures get_written { (t : Attempt) (cell : Addr) (value : ℕ) → AwaitsAskAt t.stage → cause_at t.stage ≡ None →
+        lookup (nat_eq cell.0) t.now.writes ≡ Some value → moved t (Takes (Get cell)) ≡ answer_with t value }
+    ensures get_noted { (t : Attempt) (cell : Addr) (note : Note) → AwaitsAskAt t.stage → cause_at t.stage ≡ None →
+        lookup (nat_eq cell.0) t.now.writes ≡ None → note_of t.notes cell.0 ≡ Some note →
+        moved t (Takes (Get cell)) ≡ answer_with t note.value }
+    ensures set { (size : ℕ) (t : Attempt) (cell : Addr) (value : ℕ) → AwaitsAskAt t.stage → cause_at t.stage ≡ None →
+        IsTrue (writes_to t.now.writes cell.0) →
+        cells_of size (moved t (Takes (Set cell value))) ≡ written cell.0 value (cells_of size t) }
+    ensures enter { (size : ℕ) (t : Attempt) → AwaitsAskAt t.stage → cause_at t.stage ≡ None → length t.saved < deepest →
+        cells_of size (moved t (Takes Enter)) ≡ entered (cells_of size t) }
+    ensures keep { (size : ℕ) (t : Attempt) → AwaitsAskAt t.stage →
+        cells_of size (moved t (Takes Keep)) ≡ kept (cells_of size t) }
+    ensures hook { (size : ℕ) (t : Attempt) (phase : HookPhase) (token : ℕ) → AwaitsAskAt t.stage → cause_at t.stage ≡ None →
+        cells_of size (moved t (Takes (Hook phase token))) ≡ hooked phase token (cells_of size t) }
+    ensures later { (size : ℕ) (t : Attempt) (token : ℕ) → AwaitsAskAt t.stage → cause_at t.stage ≡ None →
+        cells_of size (moved t (Takes (Later token))) ≡ delayed token (cells_of size t) }
+{}
+
+/// A first read that ends well makes one note more and tells the value, and a first write that ends
+/// well is written.
+pub fn what_ends_well_is_noted_or_written()
+    ensures noted { (size : ℕ) (t : Attempt) (cell left : ℕ) (first : Meta) (value : ℕ) (second : Meta) → cause_at t.stage ≡ None →
+        IsTrue (still_has t.own first.version second) →
+        cells_of size (looked_twice t cell left first value second) ≡
+        record (cells_of size t) { reads = t.notes ++ record { addr = addr_of cell; version = first.version; value = value } ∷ [] } }
+    ensures told { (t : Attempt) (cell left : ℕ) (first : Meta) (value : ℕ) (second : Meta) →
+        IsTrue (still_has t.own first.version second) → (looked_twice t cell left first value second).stage ≡ Ready (Some value) }
+    ensures written { (size : ℕ) (t : Attempt) (cell value left : ℕ) (tried : Bool) (first expected : Meta) (again : Bool) (found : Meta) →
+        cause_at t.stage ≡ None → IsTrue (same_meta found expected) →
+        cells_of size (owning t cell value left tried first expected again found) ≡ written cell value (cells_of size t) }
+{}
+
+/// Once the cells of a level are given back and its handlers have run, the level is undone. It may be
+/// rung for the last one of these cells first.
+pub fn a_level_given_back_is_undone()
+    ensures runs { (size : ℕ) (t : Attempt) (hooks : Handlers) → t.due ≡ run_all hooks →
+        cells_of size (moved_on t (replicate (length hooks) Does)) ≡
+        record (cells_of size t) { now = record t.now { runs = t.now.runs ++ hooks } } }
+    ensures undone { (size : ℕ) (t : Attempt) (kept : List (ℕ × ℕ)) (pending : Bool) (cell : ℕ) →
+        t.due ≡ ring_if pending cell → 0 < length t.saved → cause_at t.stage ≡ None →
+        cells_of size (moved_on (give_back_on t kept []) (replicate (length (give_back_on t kept []).due) Does)) ≡
+        undone (cells_of size t) }
+{}
+
+/// Who was refused something is refused everything with that cause: nothing but the number of levels
+/// changes until it is rolled back.
+pub fn who_was_refused_stays_so()
+    ensures calls { (size : ℕ) (t : Attempt) (cause : Cause) (ask : Ask) → cause_at t.stage ≡ Some cause → IsCall ask →
+        moved t (Takes ask) ≡ t }
+    ensures keep { (size : ℕ) (t : Attempt) (cause : Cause) → cause_at t.stage ≡ Some cause →
+        cells_of size (moved t (Takes Keep)) ≡ kept (cells_of size t) }
+    ensures undo { (size : ℕ) (t : Attempt) (cause : Cause) → cause_at t.stage ≡ Some cause →
+        cells_of size (moved t (Takes Undo)) ≡ undone (cells_of size t) }
+    ensures finish { (t : Attempt) (cause : Cause) → cause_at t.stage ≡ Some cause → moved t (Takes Finish) ≡ rolled t cause }
+    ensures abandon { (t : Attempt) (cause other : Cause) → cause_at t.stage ≡ Some cause →
+        moved t (Takes (Abandon other)) ≡ rolled t cause }
+    ensures late { (t : Attempt) (cause : Cause) → cause_at t.stage ≡ Some cause → moved t EndsLate ≡ rolled t cause }
+{}
+
+/// A body that puts nothing off is the whole transaction.
+pub fn a_body_that_puts_nothing_off_is_the_whole<L: Law, B: Body<L>>()
+    ensures { (body left : B) (heap : List ℕ) (out : B.Out) (after : Book) → after.laters ≡ [] →
+        (Whole B.means B.late_means body heap out after left ↔ B.means body heap empty_book (Ok out) after left) }
+{}
