@@ -1,0 +1,192 @@
+//! The read of a cell: a look at its metadata, its value, and a second look that has to show the same
+//! version. It is made anew as often as the policy grants looks.
+ghost use Rattle.std.specs.Prelude.{◌≡◌, ◌<◌, ◌≤◌, ◌+◌, ◌*◌, [], ℕ, IfSome, IsNone, IsSome, None, Some};
+ghost use Rattle.stm_model.specs.Accesses.{next_access};
+ghost use Rattle.stm_model.specs.After.{after_word, at, look_again, looked, looked_twice};
+ghost use Rattle.stm_model.specs.Attempt.{Attempt, Fetch, FirstLook};
+ghost use Rattle.meta_word.specs.declared.meta.Meta.{Meta};
+ghost use Rattle.op_read.specs.declared.read.ReadEnd.TheVariants.{NeedExtension};
+ghost use Rattle.op_read.specs.declared.read.ReadPlace.TheVariants.{FirstLook as AtFirstLook, SecondLook as AtSecondLook};
+ghost use Rattle.op_read.specs.Read.{EndShows, IsLoad, IsQuiet, IsReading, IsToExtend, ShowsCause, accesses_left, end_of_read, reading};
+
+use meta_word::unpack_meta;
+use stm_model::{Access, Addr, Cause, Meta, Notes, Word};
+
+/// How a read ended.
+#[derive(Clone, Copy, Debug, PartialEq, Eq)]
+pub enum ReadEnd {
+    /// The value, which is the cell's at this version.
+    Got { value: u64, version: u64 },
+    /// The cell's version is past the prefix. The read goes on by `resume` once that was extended.
+    NeedExtension { meta: Meta },
+    Bad(Cause),
+}
+
+/// Where a read stands.
+#[derive(Clone, Copy, Debug, PartialEq, Eq)]
+pub enum ReadPlace {
+    FirstLook,
+    Fetch { first: Meta },
+    SecondLook { first: Meta, value: u64 },
+    Ended(ReadEnd),
+}
+
+/// The read of a cell that is neither buffered nor noted.
+#[derive(Clone, Copy, Debug, PartialEq, Eq)]
+pub struct ReadOp {
+    pub addr: Addr,
+    /// The number of the caller that reads.
+    pub own: u16,
+    pub prefix: u64,
+    /// How many rounds may follow this one.
+    pub left: u16,
+    pub place: ReadPlace,
+}
+
+impl ReadOp {
+    /// A read that has made no access. It has one round more than `looks`.
+    pub fn new(addr: Addr, own: u16, prefix: u64, looks: u16) -> ReadOp
+        ensures begins { (t : Attempt) → reading result t ≡ at t (FirstLook addr.0 looks) }
+        ensures going { end_of_read result ≡ None }
+        ensures for_attempt { (t : Attempt) → t.own ≡ own → t.prefix ≡ prefix → IsReading result t }
+        ensures quiet { IsQuiet result }
+        ensures bound { (reads : ℕ) → accesses_left result reads ≤ (looks + 1) * (4 + reads) }
+    {
+        ReadOp {
+            addr,
+            own,
+            prefix,
+            left: looks,
+            place: ReadPlace::FirstLook,
+        }
+    }
+
+    /// The next access, and none once the read has ended.
+    #[tactic(auto, unfolding(stm_model::specs::Accesses::next_at, stm_model::specs::Accesses::access_of))]
+    pub fn next<N: Notes>(&self, _notes: &N) -> Option<Access>
+        ensures access { IsNone (end_of_read self.now) → (t : Attempt) → t.due ≡ [] → result ≡ next_access (reading self.now t) }
+        ensures end { IsSome (end_of_read self.now) → result ≡ None }
+        ensures loads { IfSome result IsLoad }
+    {
+        match self.place {
+            ReadPlace::FirstLook | ReadPlace::SecondLook { .. } => {
+                Some(Access::Load(Word::Meta(self.addr)))
+            }
+            ReadPlace::Fetch { .. } => Some(Access::Load(Word::Value(self.addr))),
+            ReadPlace::Ended(_) => None,
+        }
+    }
+
+    /// Takes the word that the access found.
+    #[tactic(auto, unfolding(stm_model::specs::After::after_at, stm_model::specs::Accesses::next_at, stm_model::specs::Accesses::answer_of))]
+    pub fn take<N: Notes>(&mut self, _notes: &N, answer: u64)
+        requires { IsNone (end_of_read self.old) }
+        ensures after { (t : Attempt) → t.due ≡ [] → IsReading self.old t → after_word (reading self.old t) answer ≡ reading self.new t }
+        ensures same { (t : Attempt) → IsReading self.old t → IsReading self.new t }
+        ensures quiet { IsQuiet self.old → IsQuiet self.new }
+        ensures evidence { IsQuiet self.old → IfSome (end_of_read self.new) (EndShows self.old.own) }
+        ensures falls { (reads : ℕ) → accesses_left self.new reads < accesses_left self.old reads }
+    {
+        match self.place {
+            ReadPlace::FirstLook => self.look(unpack_meta(answer)),
+            ReadPlace::Fetch { first } => {
+                self.place = ReadPlace::SecondLook {
+                    first,
+                    value: answer,
+                }
+            }
+            ReadPlace::SecondLook { first, value } => {
+                self.look_twice(first, value, unpack_meta(answer))
+            }
+            ReadPlace::Ended(_) => {}
+        }
+    }
+
+    // A first look showed this.
+    #[tactic(auto, unfolding(stm_model::specs::After::looked))]
+    fn look(&mut self, first: Meta)
+        requires { self.old.place ≡ AtFirstLook }
+        ensures after { (t : Attempt) → IsReading self.old t → looked t self.old.addr.0 self.old.left first ≡ reading self.new t }
+        ensures same { (t : Attempt) → IsReading self.old t → IsReading self.new t }
+        ensures quiet { IsQuiet self.old → IsQuiet self.new }
+        ensures evidence { IsQuiet self.old → IfSome (end_of_read self.new) (EndShows self.old.own) }
+        ensures falls { (reads : ℕ) → accesses_left self.new reads < accesses_left self.old reads }
+    {
+        if first.is_changing_by_another(self.own) {
+            self.end_round(Cause::ReadConflict {
+                addr: self.addr,
+                meta: first,
+            });
+        } else if first.version > self.prefix {
+            self.place = ReadPlace::Ended(ReadEnd::NeedExtension { meta: first });
+        } else {
+            self.place = ReadPlace::Fetch { first };
+        }
+    }
+
+    // A second look showed this.
+    #[tactic(auto, unfolding(stm_model::specs::After::looked_twice))]
+    fn look_twice(&mut self, first: Meta, value: u64, second: Meta)
+        requires { self.old.place ≡ AtSecondLook first value }
+        ensures after { (t : Attempt) → IsReading self.old t → looked_twice t self.old.addr.0 self.old.left first value second ≡ reading self.new t }
+        ensures same { (t : Attempt) → IsReading self.old t → IsReading self.new t }
+        ensures quiet { IsQuiet self.old → IsQuiet self.new }
+        ensures evidence { IsQuiet self.old → IfSome (end_of_read self.new) (EndShows self.old.own) }
+        ensures falls { (reads : ℕ) → accesses_left self.new reads < accesses_left self.old reads }
+    {
+        if second.still_has(self.own, first.version) {
+            self.place = ReadPlace::Ended(ReadEnd::Got {
+                value,
+                version: first.version,
+            });
+        } else {
+            self.end_round(Cause::Moved {
+                addr: self.addr,
+                first,
+                second,
+            });
+        }
+    }
+
+    // A round is over: one more, or the read is refused.
+    fn end_round(&mut self, cause: Cause)
+        ensures after { (t : Attempt) → look_again t self.old.addr.0 self.old.left cause ≡ reading self.new t }
+        ensures same { (t : Attempt) → IsReading self.old t → IsReading self.new t }
+        ensures quiet { IsQuiet self.new }
+        ensures evidence { ShowsCause self.old.own cause → IfSome (end_of_read self.new) (EndShows self.old.own) }
+        ensures falls { (reads : ℕ) → accesses_left self.new reads ≤ self.old.left * (4 + reads) }
+    {
+        if self.left == 0 {
+            self.place = ReadPlace::Ended(ReadEnd::Bad(cause));
+        } else {
+            self.left -= 1;
+            self.place = ReadPlace::FirstLook;
+        }
+    }
+
+    /// Goes on after an extension, with the prefix that it led to.
+    pub fn resume(&mut self, prefix: u64)
+        requires { IsToExtend self.old.place }
+        ensures place { (meta : Meta) → end_of_read self.old ≡ Some (NeedExtension meta) → (t : Attempt) →
+            reading self.new t ≡ at t (Fetch self.old.addr.0 self.old.left meta) }
+        ensures going { end_of_read self.new ≡ None }
+        ensures for_attempt { (t : Attempt) → t.own ≡ self.old.own → t.prefix ≡ prefix → IsReading self.new t }
+        ensures quiet { IsQuiet self.old → IsQuiet self.new }
+        ensures falls { (reads : ℕ) → accesses_left self.new reads + 1 + reads ≤ accesses_left self.old reads }
+    {
+        self.prefix = prefix;
+        if let ReadPlace::Ended(ReadEnd::NeedExtension { meta }) = self.place {
+            self.place = ReadPlace::Fetch { first: meta };
+        }
+    }
+
+    /// How the read ended, once it has.
+    pub fn end(&self) -> Option<ReadEnd>
+        ensures { result ≡ end_of_read self.now }
+    {
+        match self.place {
+            ReadPlace::Ended(end) => Some(end),
+            _ => None,
+        }
+    }
+}
