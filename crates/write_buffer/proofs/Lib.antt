@@ -1,0 +1,4 @@
+pub mod GivenBack
+pub mod Marks
+pub mod Places
+pub mod Undoing

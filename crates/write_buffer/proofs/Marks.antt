@@ -1,0 +1,75 @@
+-- Marks through each change of a buffer.
+use Rattle.std.proofs.Common.{◌≡◌, ℕ, List, [], ◌∷◌, ◌++◌, length, take, drop, set, slice_get, Some, refl, sym, ap, ◌∙◌, arith, length-set, length-append}
+use Rattle.std.proofs.lemmas.List.{drop-append-le, drop_all, length-take-le, take-append-le, take_all}
+use Rattle.stm_model.specs.declared.marks.WriteMark.{WriteMark}
+use Rattle.write_buffer.specs.Buffer.{Buffer, IsMark, IsNoLater, Keeps, at_mark, given_back}
+use Rattle.write_buffer.proofs.GivenBack.{drop_front, given_back_append, given_back_newest, given_back_none, length_given_back, take_given_back, take_shorter, take_with_value, with_value_former}
+
+-- nothing that a mark looks at has changed
+pub Keeps_same : (before after : Buffer) → after.writes ≡ before.writes → after.replaced ≡ before.replaced → (mark : WriteMark) → IsMark before mark → Keeps before after mark
+unfolding at_mark
+Keeps_same before after writes replaced mark is =
+    record {
+      still = record { entries = rw writes is.entries; restores = rw replaced is.restores };
+      same = rw (writes, replaced) refl;
+    }
+
+-- a write of one cell more
+pub Keeps_new : (before after : Buffer) (write : ℕ × ℕ) → after.writes ≡ before.writes ++ write ∷ [] → after.replaced ≡ before.replaced
+    → (mark : WriteMark) → IsMark before mark → Keeps before after mark
+unfolding at_mark
+Keeps_new before after write writes replaced mark is =
+    record {
+      still = record { entries = rw writes (omega (arith, length-append before.writes (write ∷ []), is.entries)); restores = rw replaced is.restores };
+      same = rw (writes, replaced, take-append-le mark.entries before.writes (write ∷ []) is.entries) refl;
+    }
+
+-- a write in the place of another one
+pub Keeps_again : (before after : Buffer) (index address value former : ℕ) → slice_get before.writes index ≡ Some (address, former)
+    → after.writes ≡ set before.writes index (address, value) → after.replaced ≡ before.replaced ++ (index, former) ∷ []
+    → (mark : WriteMark) → IsMark before mark → Keeps before after mark
+unfolding at_mark
+Keeps_again before after index address value former here writes replaced mark is =
+    record {
+      still = record {
+        entries = rw writes (omega (arith, length-set before.writes index (address, value), is.entries));
+        restores = rw replaced (omega (arith, length-append before.replaced ((index, former) ∷ []), is.restores));
+      };
+      same =
+          rw (writes, replaced, drop-append-le mark.restores before.replaced ((index, former) ∷ []) is.restores)
+          (given_back_newest (take mark.entries (set before.writes index (address, value))) (drop mark.restores before.replaced) index former
+          ∙ ap (λ (kept : List (ℕ × ℕ)). given_back kept (drop mark.restores before.replaced))
+          (sym (take_with_value mark.entries (set before.writes index (address, value)) index former)
+          ∙ ap (take mark.entries) (with_value_former before.writes index address value former here)));
+    }
+
+-- an undo, for marks taken no later than the one that it goes back to
+pub Keeps_undone : (before after : Buffer) (mark : WriteMark) → IsMark before mark → after.writes ≡ at_mark before mark → after.replaced ≡ take mark.restores before.replaced
+    → (older : WriteMark) → IsNoLater older mark → Keeps before after older
+unfolding at_mark
+Keeps_undone before after mark is writes replaced older earlier =
+    let kept : List (ℕ × ℕ) = take mark.entries before.writes in
+    let newer : List (ℕ × ℕ) = drop mark.restores before.replaced in
+    let entries : length kept ≡ mark.entries = length-take-le mark.entries before.writes is.entries in
+    let restores : length (take mark.restores before.replaced) ≡ mark.restores = length-take-le mark.restores before.replaced is.restores in
+    record {
+      still = record {
+        entries = rw writes (omega (arith, length_given_back kept newer, entries, earlier.entries));
+        restores = rw replaced (omega (arith, restores, earlier.restores));
+      };
+      same =
+          rw (writes, replaced)
+          (ap (λ (list : List (ℕ × ℕ)). given_back list (drop older.restores (take mark.restores before.replaced)))
+          (take_given_back older.entries kept newer
+          ∙ ap (λ (list : List (ℕ × ℕ)). given_back list newer) (take_shorter older.entries mark.entries before.writes earlier.entries))
+          ∙ sym (given_back_append (take older.entries before.writes) (drop older.restores (take mark.restores before.replaced)) newer)
+          ∙ ap (given_back (take older.entries before.writes)) (drop_front older.restores mark.restores before.replaced earlier.restores));
+    }
+
+-- ---- a mark of the present
+
+pub at_mark_now : (buffer : Buffer) (mark : WriteMark) → mark.entries ≡ length buffer.writes → mark.restores ≡ length buffer.replaced → at_mark buffer mark ≡ buffer.writes
+unfolding at_mark
+at_mark_now buffer mark entries restores =
+    rw (entries, restores, take_all (length buffer.writes) buffer.writes (omega arith))
+    (given_back_none buffer.writes (drop (length buffer.replaced) buffer.replaced) (drop_all (length buffer.replaced) buffer.replaced (omega arith)))

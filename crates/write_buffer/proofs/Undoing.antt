@@ -1,0 +1,55 @@
+-- A buffer on its way back to a mark.
+use Rattle.std.proofs.Common.{◌≡◌, ℕ, ◌<◌, ◌≤◌, List, [], ◌∷◌, ◌++◌, ◌+◌, length, take, drop, refl, sym, ap, ◌∙◌, arith, length-append, length-set}
+use Rattle.std.specs.Prelude.{slice_index_or}
+use Rattle.std.proofs.lemmas.List.{drop-append-le, drop_all, length-take-le, take-append-le, take_all}
+use Rattle.stm_model.specs.declared.marks.WriteMark.{WriteMark}
+use Rattle.write_buffer.specs.Buffer.{AreApart, Buffer, IsMark, at_mark, given_back, with_value}
+use Rattle.write_buffer.proofs.GivenBack.{AreApart_take, AreApart_with_value, given_back_newest, given_back_none}
+
+-- These writes lead back to the mark, when the values that were replaced since and aren't given back yet are.
+pub record IsUndoing (buffer : Buffer) (mark : WriteMark) (writes replaced : List (ℕ × ℕ)) : Type 0 where
+  pub going_back : given_back writes (drop mark.restores replaced) ≡ at_mark buffer mark
+  pub older : take mark.restores replaced ≡ take mark.restores buffer.replaced
+  pub left : mark.restores ≤ length replaced
+  pub apart : AreApart writes
+  pub entries : length writes ≤ length buffer.writes
+  pub restores : length replaced ≤ length buffer.replaced
+
+pub undoing_begins : (buffer : Buffer) (mark : WriteMark) (writes replaced : List (ℕ × ℕ)) → IsMark buffer mark → AreApart buffer.writes
+    → writes ≡ take mark.entries buffer.writes → replaced ≡ buffer.replaced → IsUndoing buffer mark writes replaced
+unfolding at_mark
+undoing_begins buffer mark writes replaced is apart kept same =
+    let entries : length (take mark.entries buffer.writes) ≡ mark.entries = length-take-le mark.entries buffer.writes is.entries in
+    record {
+      going_back = rw (kept, same) refl;
+      older = rw same refl;
+      left = rw same is.restores;
+      apart = rw kept (AreApart_take mark.entries buffer.writes apart);
+      entries = rw kept (omega (arith, entries, is.entries));
+      restores = rw same (omega arith);
+    }
+
+pub undoing_goes_on : (buffer : Buffer) (mark : WriteMark) (writes replaced after rest : List (ℕ × ℕ)) (index former : ℕ) → mark.restores < length replaced
+    → replaced ≡ rest ++ (index, former) ∷ [] → after ≡ with_value writes index former
+    → IsUndoing buffer mark writes replaced → IsUndoing buffer mark after rest
+undoing_goes_on buffer mark writes replaced after rest index former more popped given undoing =
+    let count : length replaced ≡ length rest + 1 = rw popped (length-append rest ((index, former) ∷ [])) in
+    let within : mark.restores ≤ length rest = omega arith in
+    record {
+      going_back =
+          rw given (sym (given_back_newest writes (drop mark.restores rest) index former)
+          ∙ ap (given_back writes) (sym (drop-append-le mark.restores rest ((index, former) ∷ []) within) ∙ sym (ap (drop mark.restores) popped))
+          ∙ undoing.going_back);
+      older = sym (take-append-le mark.restores rest ((index, former) ∷ []) within) ∙ sym (ap (take mark.restores) popped) ∙ undoing.older;
+      left = within;
+      apart = rw given (AreApart_with_value writes index former undoing.apart);
+      entries = rw given (omega (arith, length-set writes index ((slice_index_or writes index (0, 0)).0, former), undoing.entries));
+      restores = omega (arith, undoing.restores);
+    }
+
+pub undoing_ends : (buffer : Buffer) (mark : WriteMark) (writes replaced : List (ℕ × ℕ)) → length replaced ≤ mark.restores → IsUndoing buffer mark writes replaced
+    → (writes ≡ at_mark buffer mark) × (replaced ≡ take mark.restores buffer.replaced)
+undoing_ends buffer mark writes replaced all undoing = (
+  sym (given_back_none writes (drop mark.restores replaced) (drop_all mark.restores replaced all)) ∙ undoing.going_back,
+  sym (take_all mark.restores replaced all) ∙ undoing.older,
+)
