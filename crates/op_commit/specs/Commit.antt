@@ -1,0 +1,155 @@
+-- The commit of what an attempt has written.
+use Rattle.std.specs.Prelude.{◌≡◌, ◌≢◌, IsFalse, ℕ, ◌+◌, ◌-◌, ◌*◌, ◌<◌, ◌≤◌, List, ◌++◌, length, drop, Option, Some, None, unwrap_or}
+use Rattle.meta_word.specs.Meta.{still_has}
+use Rattle.meta_word.specs.declared.meta.TheConstants.{MAX_VERSION}
+use Rattle.meta_word.specs.declared.status.Phase.{Phase}
+use Rattle.meta_word.specs.declared.status.Phase.TheVariants.{Idle, Preparing}
+use Rattle.meta_word.specs.declared.status.TheConstants.{MAX_SERIAL}
+use Rattle.op_commit.specs.declared.commit.CommitEnd.{CommitEnd}
+use Rattle.op_commit.specs.declared.commit.CommitEnd.TheVariants.{Bad, Decided, Prepared, Stamp}
+use Rattle.op_commit.specs.declared.commit.CommitOp.{CommitOp}
+use Rattle.op_commit.specs.declared.commit.CommitPlace.{CommitPlace}
+use Rattle.op_commit.specs.declared.commit.CommitPlace.TheVariants.{Check as AtCheck, Close as AtClose, Decide as AtDecide, Ended as AtEnd, Mark as AtMark, Prepare as AtPrepare, Release as AtRelease, Sample as AtSample, Store as AtStore}
+use Rattle.op_commit.specs.Buffered.{buffered, ring_for}
+use Rattle.stm_model.specs.declared.cause.Addr.{Addr}
+use Rattle.stm_model.specs.declared.cause.Cause.{Cause}
+use Rattle.stm_model.specs.declared.cause.Cause.TheVariants.{ClockEnd, ClockMoved, Doomed, Stale}
+use Rattle.stm_model.specs.declared.ending.Ending.TheVariants.{Committed}
+use Rattle.stm_model.specs.declared.note.Note.{Note}
+use Rattle.stm_model.specs.Accesses.{active}
+use Rattle.stm_model.specs.After.{same_status, at, check_on, mark_on, release_on, rolled, run_all, store_on}
+use Rattle.stm_model.specs.Attempt.{Attempt, Close, Decide, Due, Ended, Prepare, Sample}
+use Rattle.stm_model.specs.Handlers.{after_commit, committing as runs_at_decision, preparing as runs_before}
+
+-- the notes that a commit goes along: the buffered cells, and then what was read
+abbrev pub notes_to_commit : Attempt → List Note
+notes_to_commit t = buffered t.now.writes ++ t.notes
+
+-- ---- the attempt while it commits
+
+-- It can't be doomed any more.
+abbrev pub in_preparation : Attempt → Attempt
+in_preparation t = record t { phase = Preparing }
+
+-- Its commit is decided.
+abbrev pub stamped : Attempt → ℕ → Attempt
+stamped t stamp = record t { phase = Preparing; ending = Some (Committed stamp) }
+
+-- Who was doomed has not begun to prepare.
+abbrev pub phase_refused : Cause → Phase → Phase
+phase_refused (Doomed status) phase = phase
+phase_refused cause phase = Preparing
+
+abbrev pub committing_end : CommitEnd → Attempt → Attempt
+committing_end Prepared t = mark_on (in_preparation t) t.now.writes
+committing_end (Decided stamp) t = store_on (stamped t stamp) t.now.writes
+committing_end (Stamp stamp) t = at (record (stamped t stamp) { phase = Idle }) Ended
+committing_end (Bad cause prefix) t = rolled (record t { phase = phase_refused cause t.phase; prefix = unwrap_or prefix t.prefix }) cause
+
+abbrev pub committing_at : CommitPlace → (writes : ℕ) → Attempt → Attempt
+committing_at AtPrepare writes t = at t Prepare
+committing_at (AtMark index) writes t = mark_on (in_preparation t) (drop index t.now.writes)
+committing_at (AtSample lost) writes t = at (in_preparation t) (Sample lost)
+committing_at (AtCheck lost clock index) writes t = check_on (in_preparation t) lost clock (drop (index - writes) t.notes)
+committing_at (AtDecide lost clock) writes t = at (in_preparation t) (Decide lost clock)
+committing_at (AtStore stamp index) writes t = store_on (stamped t stamp) (drop index t.now.writes)
+committing_at (AtRelease stamp index) writes t = release_on (stamped t stamp) (drop index t.now.writes)
+committing_at (AtClose stamp) writes t = at (stamped t stamp) Close
+committing_at (AtEnd end) writes t = committing_end end t
+
+-- the attempt that this one is while the commit stands so
+abbrev pub committing : CommitOp → Attempt → Attempt
+committing op = committing_at op.place op.writes
+
+abbrev pub due_at : CommitPlace → Option Addr → Attempt → List Due
+due_at (AtEnd Prepared) rung t = ring_for rung ++ run_all (runs_before t.now.hooks)
+due_at (AtEnd (Decided stamp)) rung t = ring_for rung ++ run_all (runs_at_decision t.now.hooks)
+due_at (AtEnd (Stamp stamp)) rung t = ring_for rung ++ run_all (after_commit t.now.hooks)
+due_at place rung t = ring_for rung
+
+-- what has come due by the last access: a ring where the pending bit was found, and handlers at a stop and at the end
+abbrev pub due_by : CommitOp → Attempt → List Due
+due_by op = due_at op.place op.rung
+
+-- The commit is made for this attempt.
+pub record IsCommitting (op : CommitOp) (t : Attempt) : Type 0 where
+  pub own : t.own ≡ op.own
+  pub serial : t.serial ≡ op.serial
+  pub tries : t.settings.tries ≡ op.tries
+  pub limit : t.settings.clock ≡ op.limit
+  pub writes : length t.now.writes ≡ op.writes
+
+-- ---- where it stands
+
+-- It stands at one of its notes, if at any, and the clock and the stamp are within the limit.
+abbrev pub IsInPlace : CommitPlace → (writes limit count : ℕ) → Type 0
+IsInPlace (AtMark index) writes limit count = index < writes
+IsInPlace (AtCheck lost clock index) writes limit count = (writes ≤ index) × ((index < count) × (clock ≤ limit))
+IsInPlace (AtDecide lost clock) writes limit count = clock < limit
+IsInPlace (AtStore stamp index) writes limit count = (index < writes) × (stamp ≤ limit)
+IsInPlace (AtRelease stamp index) writes limit count = (index < writes) × (stamp ≤ limit)
+IsInPlace (AtClose stamp) writes limit count = stamp ≤ limit
+IsInPlace (AtEnd (Decided stamp)) writes limit count = stamp ≤ limit
+IsInPlace place writes limit count = Unit {0}
+
+-- It goes along these notes, and all that it keeps is within bounds.
+pub record IsAlong (op : CommitOp) (notes : List Note) : Type 0 where
+  pub serial : op.serial ≤ MAX_SERIAL
+  pub limit : op.limit ≤ MAX_VERSION
+  pub writes : op.writes ≤ length notes
+  pub place : IsInPlace op.place op.writes op.limit (length notes)
+
+-- A clock that it loads is within the limit.
+abbrev pub ClockFits : CommitPlace → (limit answer : ℕ) → Type 0
+ClockFits (AtSample lost) limit answer = answer ≤ limit
+ClockFits place limit answer = Unit {0}
+
+-- It waits for handlers to be run.
+abbrev pub IsStop : CommitPlace → Type 0
+IsStop (AtEnd Prepared) = Unit {0}
+IsStop (AtEnd (Decided stamp)) = Unit {0}
+IsStop place = ⊥
+
+abbrev pub end_at : CommitPlace → Option CommitEnd
+end_at (AtEnd end) = Some end
+end_at place = None
+
+abbrev pub end_of_commit : CommitOp → Option CommitEnd
+end_of_commit op = end_at op.place
+
+-- ---- how many accesses may follow, over so many notes
+
+-- of so many rounds that each load the clock, check the reads and try for the clock
+abbrev pub rounds : (count writes reads : ℕ) → ℕ
+rounds count writes reads = count * (reads + 2) + (2 * writes + 1)
+
+abbrev pub left_at : CommitPlace → (writes tries reads : ℕ) → ℕ
+left_at AtPrepare writes tries reads = writes + rounds (tries + 1) writes reads + 1
+left_at (AtMark index) writes tries reads = writes - index + rounds (tries + 1) writes reads
+left_at (AtSample lost) writes tries reads = rounds (tries - lost + 1) writes reads
+left_at (AtCheck lost clock index) writes tries reads = rounds (tries - lost) writes reads + (reads + writes - index) + 1
+left_at (AtDecide lost clock) writes tries reads = rounds (tries - lost) writes reads + 1
+left_at (AtStore stamp index) writes tries reads = writes - index + writes + 1
+left_at (AtRelease stamp index) writes tries reads = writes - index + 1
+left_at (AtClose stamp) writes tries reads = 1
+left_at (AtEnd Prepared) writes tries reads = writes + rounds (tries + 1) writes reads
+left_at (AtEnd (Decided stamp)) writes tries reads = 2 * writes + 1
+left_at (AtEnd end) writes tries reads = 0
+
+abbrev pub accesses_left : CommitOp → (reads : ℕ) → ℕ
+accesses_left op = left_at op.place op.writes op.tries
+
+-- ---- what a failed commit shows
+
+-- The own status was another one than that of an active attempt; a noted cell no longer stands as it was noted; the clock was at its limit; the clock was found at another value than it was loaded.
+abbrev pub FailureShows : CommitOp → Cause → Type 0
+FailureShows op (Doomed status) = IsFalse (same_status status (active op.serial))
+FailureShows op (Stale addr version meta) = IsFalse (still_has op.own version meta)
+FailureShows op (ClockEnd clock) = clock ≡ op.limit
+FailureShows op (ClockMoved first second) = first ≢ second
+FailureShows op _ = ⊥
+
+-- Where the commit stands at a bad end, the words of its cause show this.
+abbrev pub PlaceShows : CommitOp → CommitPlace → Type 0
+PlaceShows op (AtEnd (Bad cause prefix)) = FailureShows op cause
+PlaceShows op place = Unit {0}

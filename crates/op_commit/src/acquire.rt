@@ -1,0 +1,343 @@
+//! The first write of a cell: a look at its metadata and an exchange that makes the caller its owner.
+//! Where another owns the cell, that one may be doomed, once. It is made anew as often as the policy
+//! grants looks.
+ghost use Rattle.std.specs.Prelude.{◌≡◌, ◌<◌, ◌≤◌, ◌+◌, ◌*◌, ◌^◌, [], ℕ, false, IfSome, IsNone, IsSome, None, Some};
+ghost use Rattle.meta_word.specs.Meta.{MetaFits, meta_word};
+ghost use Rattle.meta_word.specs.Status.{StatusFits};
+ghost use Rattle.meta_word.specs.declared.meta.Meta.{Meta};
+ghost use Rattle.meta_word.specs.declared.meta.TheConstants.{MAX_OWNER};
+ghost use Rattle.stm_model.specs.declared.access.Access.TheVariants.{Exchange};
+ghost use Rattle.stm_model.specs.Accesses.{meta_of_cell, next_access, owned};
+ghost use Rattle.stm_model.specs.After.{acquired, after_word, at, looks, note_of, owner_seen, owner_seen_again, owning, same_but_pending, take_again, write_refused};
+ghost use Rattle.stm_model.specs.Attempt.{Acquire, Attempt};
+ghost use Rattle.op_commit.specs.Acquire.{EndShows, IsAcquiring, IsWithin, RefusalShows, accesses_left, acquiring, end_of_acquire, met, rounds_left, version_in};
+ghost use Rattle.op_commit.specs.declared.acquire.AcquireEnd.TheVariants.{Owned};
+ghost use Rattle.op_commit.specs.declared.acquire.AcquirePlace.TheVariants.{Exchange as AtExchange, FirstLook as AtFirstLook, SeeAgain as AtSeeAgain, SeeOwner as AtSeeOwner};
+
+use conflict_policy::{Move, next_move};
+use meta_word::{Phase, Policy, pack_meta, pack_status, unpack_meta, unpack_status};
+use stm_model::{Access, Addr, Cause, Meta, Notes, TxnStatus, Word};
+
+/// How a first write ended.
+#[derive(Clone, Copy, Debug, PartialEq, Eq)]
+pub enum AcquireEnd {
+    /// The caller owns the cell. The exchange that was won replaced this word.
+    Owned { meta: Meta },
+    Bad(Cause),
+}
+
+/// Where a first write stands. The first look of the round showed `first`.
+#[derive(Clone, Copy, Debug, PartialEq, Eq)]
+pub enum AcquirePlace {
+    FirstLook,
+    /// It exchanges the word that it expects, again where the pending bit alone came between.
+    Exchange {
+        first: Meta,
+        expected: Meta,
+        again: bool,
+    },
+    /// It looks whether the owner can be doomed.
+    SeeOwner {
+        first: Meta,
+    },
+    SeeAgain {
+        first: Meta,
+        status: TxnStatus,
+    },
+    DoomOwner {
+        first: Meta,
+        second: Meta,
+        status: TxnStatus,
+    },
+    Ended(AcquireEnd),
+}
+
+/// The first write of a cell.
+#[derive(Clone, Copy, Debug, PartialEq, Eq)]
+pub struct AcquireOp {
+    pub addr: Addr,
+    /// The number of the caller that writes.
+    pub own: u16,
+    pub policy: Policy,
+    /// The version that was noted of the cell.
+    pub noted: Option<u64>,
+    /// How many rounds are over.
+    pub rounds_done: u16,
+    pub doom_tried: bool,
+    pub place: AcquirePlace,
+}
+
+impl AcquireOp {
+    /// A first write that has made no access.
+    pub fn new(addr: Addr, own: u16, policy: Policy, noted: Option<u64>) -> AcquireOp
+        requires own { own ≤ MAX_OWNER }
+        requires looks { looks policy + 1 < 2 ^ 16 }
+        ensures begins { (t : Attempt) (value : ℕ) → acquiring result value t ≡ at t (Acquire addr.0 value (looks policy) false) }
+        ensures for_attempt { (t : Attempt) → t.own ≡ own → t.settings.policy ≡ policy → version_in (note_of t.notes addr.0) ≡ noted → IsAcquiring result t }
+        ensures within { IsWithin result }
+        ensures bound { accesses_left result ≤ (looks policy + 1) * 4 }
+    {
+        AcquireOp {
+            addr,
+            own,
+            policy,
+            noted,
+            rounds_done: 0,
+            doom_tried: false,
+            place: AcquirePlace::FirstLook,
+        }
+    }
+
+    /// The next access, and none once the first write has ended.
+    #[tactic(auto, unfolding(stm_model::specs::Accesses::next_at, stm_model::specs::Accesses::access_of))]
+    pub fn next<N: Notes>(&self, _notes: &N) -> Option<Access>
+        requires { IsWithin self.now }
+        ensures access { IsNone (end_of_acquire self.now) → (t : Attempt) (value : ℕ) → t.due ≡ [] → IsAcquiring self.now t →
+            result ≡ next_access (acquiring self.now value t) }
+        ensures end { IsSome (end_of_acquire self.now) → result ≡ None }
+    {
+        match self.place {
+            AcquirePlace::FirstLook | AcquirePlace::SeeAgain { .. } => {
+                Some(Access::Load(Word::Meta(self.addr)))
+            }
+            AcquirePlace::Exchange { expected, .. } => Some(Access::Exchange {
+                word: Word::Meta(self.addr),
+                old: pack_meta(expected),
+                new: pack_meta(Meta {
+                    owner: self.own,
+                    ..expected
+                }),
+            }),
+            AcquirePlace::SeeOwner { first } => Some(Access::Load(Word::Status(first.owner))),
+            AcquirePlace::DoomOwner { first, status, .. } => Some(Access::Exchange {
+                word: Word::Status(first.owner),
+                old: pack_status(status),
+                new: pack_status(TxnStatus {
+                    phase: Phase::Doomed,
+                    ..status
+                }),
+            }),
+            AcquirePlace::Ended(_) => None,
+        }
+    }
+
+    /// Takes the word that the access found.
+    #[tactic(auto, unfolding(stm_model::specs::After::after_at, stm_model::specs::Accesses::next_at, stm_model::specs::Accesses::answer_of))]
+    pub fn take<N: Notes>(&mut self, _notes: &N, answer: u64)
+        requires going { IsNone (end_of_acquire self.old) }
+        requires within { IsWithin self.old }
+        ensures after { (t : Attempt) (value : ℕ) → t.due ≡ [] → IsAcquiring self.old t →
+            after_word (acquiring self.old value t) answer ≡ acquiring self.new value t }
+        ensures owned { (meta : Meta) → end_of_acquire self.new ≡ Some (Owned meta) → (t : Attempt) (value : ℕ) → t.due ≡ [] → IsAcquiring self.old t →
+            next_access (acquiring self.old value t) ≡ Some (Exchange (meta_of_cell self.old.addr.0) answer (meta_word (owned self.old.own meta))) }
+        ensures same { (t : Attempt) → IsAcquiring self.old t → IsAcquiring self.new t }
+        ensures refusal { IfSome (end_of_acquire self.new) (EndShows self.old) }
+        ensures within { IsWithin self.new }
+        ensures falls { accesses_left self.new < accesses_left self.old }
+    {
+        match self.place {
+            AcquirePlace::FirstLook => self.look(unpack_meta(answer)),
+            AcquirePlace::Exchange {
+                first,
+                expected,
+                again,
+            } => { self.try_to_own(first, expected, again, unpack_meta(answer)) }
+            AcquirePlace::SeeOwner { first } => self.see_owner(first, unpack_status(answer)),
+            AcquirePlace::SeeAgain { first, status } => {
+                self.see_again(first, status, unpack_meta(answer))
+            }
+            AcquirePlace::DoomOwner { first, second, .. } => self.end_round(first, second),
+            AcquirePlace::Ended(_) => {}
+        }
+    }
+
+    // The first look of a round showed this.
+    #[tactic(auto, unfolding(stm_model::specs::After::acquiring))]
+    fn look(&mut self, first: Meta)
+        requires place { self.old.place ≡ AtFirstLook }
+        requires within { IsWithin self.old }
+        requires fits { MetaFits first }
+        ensures after { (t : Attempt) (value : ℕ) → IsAcquiring self.old t →
+            acquired t self.old.addr.0 value (rounds_left self.old) self.old.doom_tried (note_of t.notes self.old.addr.0) first ≡ acquiring self.new value t }
+        ensures not_yet { (meta : Meta) → end_of_acquire self.new ≡ Some (Owned meta) → ⊥ }
+        ensures same { (t : Attempt) → IsAcquiring self.old t → IsAcquiring self.new t }
+        ensures refusal { IfSome (end_of_acquire self.new) (EndShows self.old) }
+        ensures within { IsWithin self.new }
+        ensures falls { accesses_left self.new < accesses_left self.old }
+    {
+        match self.noted {
+            Some(version) if version != first.version => {
+                self.place = AcquirePlace::Ended(AcquireEnd::Bad(Cause::Stale {
+                    addr: self.addr,
+                    version,
+                    meta: first,
+                }));
+            }
+            _ if first.owner == 0 => {
+                self.place = AcquirePlace::Exchange {
+                    first,
+                    expected: first,
+                    again: false,
+                };
+            }
+            _ => self.meet_owner(first),
+        }
+    }
+
+    // Somebody owns the cell: another, that may be doomed, or the caller itself.
+    fn meet_owner(&mut self, first: Meta)
+        requires place { self.old.place ≡ AtFirstLook }
+        requires within { IsWithin self.old }
+        ensures after { (t : Attempt) (value : ℕ) → IsAcquiring self.old t →
+            met t self.old.addr.0 value (rounds_left self.old) self.old.doom_tried first ≡ acquiring self.new value t }
+        ensures not_yet { (meta : Meta) → end_of_acquire self.new ≡ Some (Owned meta) → ⊥ }
+        ensures same { (t : Attempt) → IsAcquiring self.old t → IsAcquiring self.new t }
+        ensures refusal { IfSome (end_of_acquire self.new) (EndShows self.old) }
+        ensures within { IsWithin self.new }
+        ensures falls { accesses_left self.new < accesses_left self.old }
+    {
+        let step = next_move(
+            self.policy,
+            self.rounds_done + 1,
+            self.doom_tried,
+            first,
+            self.own,
+        );
+        if let Move::TryDoom { .. } = step {
+            self.doom_tried = true;
+            self.place = AcquirePlace::SeeOwner { first };
+        } else {
+            self.end_round(first, first);
+        }
+    }
+
+    // An exchange of the metadata found this.
+    #[tactic(auto, unfolding(stm_model::specs::After::owning))]
+    fn try_to_own(&mut self, first: Meta, expected: Meta, again: bool, found: Meta)
+        requires place { self.old.place ≡ AtExchange first expected again }
+        requires within { IsWithin self.old }
+        requires fits { MetaFits found }
+        ensures after { (t : Attempt) (value : ℕ) → IsAcquiring self.old t →
+            owning t self.old.addr.0 value (rounds_left self.old) self.old.doom_tried first expected again found ≡ acquiring self.new value t }
+        ensures owned { (meta : Meta) → end_of_acquire self.new ≡ Some (Owned meta) → meta ≡ found }
+        ensures won { (meta : Meta) → end_of_acquire self.new ≡ Some (Owned meta) → found ≡ expected }
+        ensures same { (t : Attempt) → IsAcquiring self.old t → IsAcquiring self.new t }
+        ensures refusal { IfSome (end_of_acquire self.new) (EndShows self.old) }
+        ensures within { IsWithin self.new }
+        ensures falls { accesses_left self.new < accesses_left self.old }
+    {
+        let is_close = is_same_but_pending(found, expected);
+        if is_close && found.pending == expected.pending {
+            self.place = AcquirePlace::Ended(AcquireEnd::Owned { meta: found });
+        } else if is_close && !again {
+            self.place = AcquirePlace::Exchange {
+                first,
+                expected: found,
+                again: true,
+            };
+        } else {
+            self.end_round(first, found);
+        }
+    }
+
+    // The owner's status shows this. Only an active owner is looked at again.
+    #[tactic(auto, unfolding(stm_model::specs::After::owner_seen))]
+    fn see_owner(&mut self, first: Meta, status: TxnStatus)
+        requires place { self.old.place ≡ AtSeeOwner first }
+        requires within { IsWithin self.old }
+        requires fits { StatusFits status }
+        ensures after { (t : Attempt) (value : ℕ) → IsAcquiring self.old t →
+            owner_seen t self.old.addr.0 value (rounds_left self.old) first status ≡ acquiring self.new value t }
+        ensures not_yet { (meta : Meta) → end_of_acquire self.new ≡ Some (Owned meta) → ⊥ }
+        ensures same { (t : Attempt) → IsAcquiring self.old t → IsAcquiring self.new t }
+        ensures refusal { IfSome (end_of_acquire self.new) (EndShows self.old) }
+        ensures within { IsWithin self.new }
+        ensures falls { accesses_left self.new < accesses_left self.old }
+    {
+        if status.phase == Phase::Active {
+            self.place = AcquirePlace::SeeAgain { first, status };
+        } else {
+            self.end_round(first, first);
+        }
+    }
+
+    // The cell shows this. Only an owner that still holds it, and isn't changing it, is doomed.
+    #[tactic(auto, unfolding(stm_model::specs::After::owner_seen_again))]
+    fn see_again(&mut self, first: Meta, status: TxnStatus, second: Meta)
+        requires place { self.old.place ≡ AtSeeAgain first status }
+        requires within { IsWithin self.old }
+        ensures after { (t : Attempt) (value : ℕ) → IsAcquiring self.old t →
+            owner_seen_again t self.old.addr.0 value (rounds_left self.old) first status second ≡ acquiring self.new value t }
+        ensures not_yet { (meta : Meta) → end_of_acquire self.new ≡ Some (Owned meta) → ⊥ }
+        ensures same { (t : Attempt) → IsAcquiring self.old t → IsAcquiring self.new t }
+        ensures refusal { IfSome (end_of_acquire self.new) (EndShows self.old) }
+        ensures within { IsWithin self.new }
+        ensures falls { accesses_left self.new < accesses_left self.old }
+    {
+        if second.owner == first.owner && !second.changing {
+            self.place = AcquirePlace::DoomOwner {
+                first,
+                second,
+                status,
+            };
+        } else {
+            self.end_round(first, second);
+        }
+    }
+
+    // A round is over, and this is its last word. At the end of a round nobody is doomed.
+    fn end_round(&mut self, first: Meta, latest: Meta)
+        requires { IsWithin self.old }
+        ensures after { (t : Attempt) (value : ℕ) → IsAcquiring self.old t →
+            take_again t self.old.addr.0 value (rounds_left self.old) self.old.doom_tried first latest ≡ acquiring self.new value t }
+        ensures not_yet { (meta : Meta) → end_of_acquire self.new ≡ Some (Owned meta) → ⊥ }
+        ensures same { (t : Attempt) → IsAcquiring self.old t → IsAcquiring self.new t }
+        ensures refusal { IfSome (end_of_acquire self.new) (EndShows self.old) }
+        ensures within { IsWithin self.new }
+        ensures falls { accesses_left self.new ≤ 4 * rounds_left self.old }
+    {
+        let step = next_move(self.policy, self.rounds_done + 1, true, latest, self.own);
+        if let Move::Again = step {
+            self.rounds_done += 1;
+            self.place = AcquirePlace::FirstLook;
+        } else {
+            self.place = AcquirePlace::Ended(AcquireEnd::Bad(self.refusal(first, latest)));
+        }
+    }
+
+    // Why the first write is refused, the last round having ended with this word.
+    fn refusal(&self, first: Meta, latest: Meta) -> Cause
+        ensures is { result ≡ write_refused self.now.own self.now.addr.0 first latest }
+        ensures shows { RefusalShows self.now result }
+    {
+        if latest.is_owned_by_another(self.own) {
+            Cause::WriteConflict {
+                addr: self.addr,
+                meta: latest,
+            }
+        } else {
+            Cause::Moved {
+                addr: self.addr,
+                first,
+                second: latest,
+            }
+        }
+    }
+
+    /// How the first write ended, once it has.
+    pub fn end(&self) -> Option<AcquireEnd>
+        ensures { result ≡ end_of_acquire self.now }
+    {
+        match self.place {
+            AcquirePlace::Ended(end) => Some(end),
+            _ => None,
+        }
+    }
+}
+
+// Whether the words are the same but for the pending bit.
+fn is_same_but_pending(meta: Meta, other: Meta) -> bool
+    ensures { result ≡ same_but_pending meta other }
+{
+    meta.changing == other.changing && meta.owner == other.owner && meta.version == other.version
+}

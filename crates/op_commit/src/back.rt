@@ -1,0 +1,149 @@
+//! The way back: cells are given back, the first ones first. So a level is undone, and so an attempt is
+//! rolled back, which then stores that it is over.
+ghost use Rattle.std.specs.Prelude.{◌≡◌, ◌<◌, ◌≤◌, ◌+◌, [], ℕ, true, false, List, Option, IsNone, IsSome, None, drop, length, take};
+ghost use Rattle.meta_word.specs.declared.status.TheConstants.{MAX_SERIAL};
+ghost use Rattle.stm_model.specs.declared.cause.Addr.{Addr};
+ghost use Rattle.stm_model.specs.declared.note.Note.{Note};
+ghost use Rattle.stm_model.specs.Accesses.{next_access};
+ghost use Rattle.stm_model.specs.After.{after_word, give_back_on, roll_on};
+ghost use Rattle.stm_model.specs.Attempt.{Attempt};
+ghost use Rattle.op_commit.specs.Back.{IsAlong, IsBacking, IsInPlace, accesses_left, backing, backing_at, due_at, due_by, end_of_back, left_at};
+ghost use Rattle.op_commit.specs.Buffered.{buffered, ring_for};
+ghost use Rattle.op_commit.specs.declared.back.BackPlace.TheVariants.{Cell as AtCell};
+
+use crate::rings::cell_to_ring;
+use meta_word::{OWNER_AND_CHANGING_BITS, Phase, pack_status, unpack_meta};
+use stm_model::{Access, Addr, Notes, TxnStatus, Word};
+
+/// How a way back ended.
+#[derive(Clone, Copy, Debug, PartialEq, Eq)]
+pub enum BackEnd {
+    Back,
+}
+
+/// Where a way back stands.
+#[derive(Clone, Copy, Debug, PartialEq, Eq)]
+pub enum BackPlace {
+    /// The cell of this index is next, and behind the last one the status.
+    Cell { index: usize },
+    Ended(BackEnd),
+}
+
+/// The way back over buffered cells.
+#[derive(Clone, Copy, Debug, PartialEq, Eq)]
+pub struct BackOp {
+    /// The number of the caller, and of its attempt.
+    pub own: u16,
+    pub serial: u64,
+    /// The cells before this one stay.
+    pub first: usize,
+    /// The attempt is over with it.
+    pub whole: bool,
+    /// The cell whose pending bit the last access found.
+    pub rung: Option<Addr>,
+    pub place: BackPlace,
+}
+
+impl BackOp {
+    /// A way back that has made no access.
+    pub fn new(own: u16, serial: u64, first: usize, whole: bool) -> BackOp
+        requires { serial ≤ MAX_SERIAL }
+        ensures undoes { whole ≡ false → (t : Attempt) → backing result t ≡ give_back_on t (take first t.now.writes) (drop first t.now.writes) }
+        ensures rolls { whole ≡ true → (t : Attempt) → backing result t ≡ roll_on t (drop first t.now.writes) }
+        ensures for_attempt { (t : Attempt) → t.own ≡ own → t.serial ≡ serial → IsBacking result t }
+        ensures along { (notes : List Note) → first < length notes → IsAlong result notes }
+        ensures to_the_end { whole ≡ true → (notes : List Note) → first ≤ length notes → IsAlong result notes }
+        ensures bound { (writes : ℕ) → accesses_left result writes ≤ writes + 1 }
+    {
+        BackOp {
+            own,
+            serial,
+            first,
+            whole,
+            rung: None,
+            place: BackPlace::Cell { index: first },
+        }
+    }
+
+    /// The next access, and none once the way back has ended.
+    #[tactic(auto, unfolding(stm_model::specs::Accesses::next_at, stm_model::specs::Accesses::access_of))]
+    pub fn next<N: Notes>(&self, notes: &N) -> Option<Access>
+        requires { IsAlong self.now (N.notes notes.now) }
+        ensures access { IsNone (end_of_back self.now) → (t : Attempt) → t.due ≡ [] → IsBacking self.now t → N.notes notes.now ≡ buffered t.now.writes →
+            result ≡ next_access (backing self.now t) }
+        ensures end { IsSome (end_of_back self.now) → result ≡ None }
+    {
+        match self.place {
+            BackPlace::Cell { index } if index < notes.len() => Some(Access::ClearBits(
+                Word::Meta(notes.at(index).addr),
+                OWNER_AND_CHANGING_BITS,
+            )),
+            BackPlace::Cell { .. } => Some(Access::Store(
+                Word::Status(self.own),
+                pack_status(TxnStatus {
+                    serial: self.serial,
+                    phase: Phase::Idle,
+                }),
+            )),
+            BackPlace::Ended(_) => None,
+        }
+    }
+
+    /// Takes the word that the access found.
+    #[tactic(auto, unfolding(stm_model::specs::After::after_at, stm_model::specs::Accesses::next_at, stm_model::specs::Accesses::answer_of))]
+    pub fn take<N: Notes>(&mut self, notes: &N, answer: u64)
+        requires along { IsAlong self.old (N.notes notes.now) }
+        requires going { IsNone (end_of_back self.old) }
+        ensures along { IsAlong self.new (N.notes notes.now) }
+        ensures after { (t : Attempt) → t.due ≡ [] → IsBacking self.old t → N.notes notes.now ≡ buffered t.now.writes →
+            after_word (backing self.old t) answer ≡ backing self.new (record t { due = due_by self.new t }) }
+        ensures same { (t : Attempt) → IsBacking self.old t → IsBacking self.new t }
+        ensures falls { accesses_left self.new (length (N.notes notes.now)) < accesses_left self.old (length (N.notes notes.now)) }
+    {
+        let count = notes.len();
+        match self.place {
+            BackPlace::Cell { index } if index < count => {
+                self.rung = cell_to_ring(unpack_meta(answer), notes.at(index).addr);
+                self.place = self.back_from(index + 1, count);
+            }
+            BackPlace::Cell { .. } => {
+                self.rung = None;
+                self.place = BackPlace::Ended(BackEnd::Back);
+            }
+            BackPlace::Ended(_) => {}
+        }
+    }
+
+    // Of so many cells, those before this index are given back.
+    fn back_from(&self, index: usize, count: usize) -> BackPlace
+        requires { index ≤ count }
+        ensures stands { (t : Attempt) → length t.now.writes ≡ count →
+            backing_at (AtCell index) self.now.first self.now.whole t ≡ backing_at result self.now.first self.now.whole t }
+        ensures due { (t : Attempt) (rung : Option Addr) → due_at result self.now.whole rung t ≡ ring_for rung }
+        ensures in_place { (notes : List Note) → length notes ≡ count → IsInPlace result self.now.whole notes }
+        ensures left { left_at result self.now.whole count ≡ left_at (AtCell index) self.now.whole count }
+    {
+        if index < count || self.whole {
+            BackPlace::Cell { index }
+        } else {
+            BackPlace::Ended(BackEnd::Back)
+        }
+    }
+
+    /// The cell whose pending bit the last access found.
+    pub fn rings(&self) -> Option<Addr>
+        ensures { result ≡ self.now.rung }
+    {
+        self.rung
+    }
+
+    /// How the way back ended, once it has.
+    pub fn end(&self) -> Option<BackEnd>
+        ensures { result ≡ end_of_back self.now }
+    {
+        match self.place {
+            BackPlace::Ended(end) => Some(end),
+            BackPlace::Cell { .. } => None,
+        }
+    }
+}
