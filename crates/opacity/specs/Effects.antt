@@ -1,0 +1,31 @@
+-- What an event does to the history, to others' views and to status words.
+use Rattle.std.specs.Prelude.{◌≡◌, ℕ, Some}
+use Rattle.meta_word.specs.declared.meta.Meta.{Meta}
+use Rattle.meta_word.specs.declared.status.Phase.TheVariants.{Active}
+use Rattle.meta_word.specs.declared.status.TxnStatus.{TxnStatus}
+use Rattle.stm_model.specs.Accesses.{TakeClock, next}
+use Rattle.stm_model.specs.Attempt.{Attempt, DoomOwner}
+use Rattle.stm_model.specs.World.{Event, Looks, Moves, Steps, Waits, World, attempt_of}
+
+-- whose event it is
+abbrev pub caller_of : Event → ℕ
+caller_of (Steps p) = p
+caller_of (Moves p this) = p
+caller_of (Looks p) = p
+caller_of (Waits p cell) = p
+
+-- A caller's attempt makes the exchange of the clock, and wins it.
+pub record WinsClock (w : World) (p : ℕ) (event : Event) : Type 0 where
+  pub steps : event ≡ Steps p
+  pub access : next (attempt_of w p) ≡ Some (TakeClock w.clock)
+
+-- An attempt is about to doom the owner of a cell: it has found this status active, and then a cell owned by that one.
+pub record IsToDoom (t : Attempt) (owner : ℕ) (status : TxnStatus) : Type 0 where
+  pub cell : ℕ
+  pub value : ℕ
+  pub left : ℕ
+  pub first : Meta
+  pub second : Meta
+  pub stands : t.stage ≡ DoomOwner cell value left first second status
+  pub owned : second.owner ≡ owner
+  pub active : status.phase ≡ Active

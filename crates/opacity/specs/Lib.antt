@@ -1,0 +1,4 @@
+pub mod Runs
+pub mod Effects
+pub mod Alone
+pub mod Words

@@ -1,0 +1,5 @@
+//! What holds of attempts at every moment, whatever the order of the callers' steps.
+#![tactic(auto)]
+
+pub mod laws;
+pub mod words;
