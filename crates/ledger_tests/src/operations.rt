@@ -1,0 +1,128 @@
+//! The operations of an attempt over the set of its reads, driven by hand. Caller 7 makes its third
+//! attempt, and words are written out by their bits.
+ghost use Rattle.std.specs.Prelude.{◌≡◌, IfOk, length};
+ghost use Rattle.op_commit.specs.Commit.{IsAlong as IsCommitAlong};
+ghost use Rattle.op_read.specs.Extend.{IsAlong};
+
+use op_commit::{CommitEnd, CommitOp, CommitPlace};
+use op_read::{ExtendEnd, ExtendOp};
+use read_set::ReadSet;
+use std::process::Abort;
+use std::test::Fail;
+use stm_model::{Access, Addr, Cause, Meta, Note, Word};
+
+// A cell of this version that nobody owns.
+fn free(version: u64) -> Meta {
+    Meta {
+        changing: false,
+        pending: false,
+        owner: 0,
+        version,
+    }
+}
+
+// Two notes: of cell 2 at version 0, with 20, and of cell 3 at version 1, with 30.
+fn two_notes(rt: &HostRuntime) -> Result<ReadSet, Fail>
+    ensures { IfOk result (λ reads. length reads.notes ≡ 2) }
+{
+    let mut reads = ReadSet::new(rt.alloc());
+    reads.add(Note {
+        addr: Addr(2),
+        version: 0,
+        value: 20,
+    })?;
+    reads.add(Note {
+        addr: Addr(3),
+        version: 1,
+        value: 30,
+    })?;
+    Ok(reads)
+}
+
+// The extension makes this access, and is given this answer.
+fn extend(rt: &impl Abort, op: &mut ExtendOp, reads: &ReadSet, access: Access, answer: u64)
+    requires { IsAlong op.old reads.now.notes }
+    ensures { IsAlong op.new reads.now.notes }
+{
+    assert_eq!(rt; op.end(), None);
+    assert_eq!(rt; op.next(reads), Some(access));
+    op.take(reads, answer);
+}
+
+// The commit makes this access, and is given this answer.
+fn commit(rt: &impl Abort, op: &mut CommitOp, reads: &ReadSet, access: Access, answer: u64)
+    requires { IsCommitAlong op.old reads.now.notes }
+    ensures { IsCommitAlong op.new reads.now.notes }
+{
+    assert!(rt; op.end().is_none());
+    assert_eq!(rt; op.next(reads), Some(access));
+    if let CommitPlace::Sample { .. } = op.place {
+        assert!(rt; answer <= op.limit);
+    }
+    op.take(reads, answer);
+    if let CommitPlace::Ended(CommitEnd::Prepared | CommitEnd::Decided { .. }) = op.place {
+        op.resume();
+    }
+}
+
+#[test]
+fn an_extension_goes_along_a_read_set(rt: HostRuntime) -> Result<(), Fail> {
+    let reads = two_notes(&rt)?;
+    let mut op = ExtendOp::new(7);
+    extend(&rt, &mut op, &reads, Access::Load(Word::Clock), 5);
+    extend(&rt, &mut op, &reads, Access::Load(Word::Meta(Addr(2))), 0);
+    extend(&rt, &mut op, &reads, Access::Load(Word::Meta(Addr(3))), 1);
+    assert_eq!(rt; op.end(), Some(ExtendEnd::Prefix(5)));
+    Ok(())
+}
+
+#[test]
+fn an_extension_finds_a_stale_note_of_a_read_set(rt: HostRuntime) -> Result<(), Fail> {
+    let reads = two_notes(&rt)?;
+    let mut op = ExtendOp::new(7);
+    extend(&rt, &mut op, &reads, Access::Load(Word::Clock), 5);
+    extend(&rt, &mut op, &reads, Access::Load(Word::Meta(Addr(2))), 0);
+    extend(&rt, &mut op, &reads, Access::Load(Word::Meta(Addr(3))), 5);
+    let cause = Cause::Stale {
+        addr: Addr(3),
+        version: 1,
+        meta: free(5),
+    };
+    assert_eq!(rt; op.end(), Some(ExtendEnd::Bad(cause)));
+    Ok(())
+}
+
+#[test]
+fn a_commit_goes_along_a_read_set(rt: HostRuntime) -> Result<(), Fail> {
+    let reads = two_notes(&rt)?;
+    let mut op = CommitOp::new(7, 3, 3, 9, 1);
+    let meta = Word::Meta(Addr(2));
+    let status = Word::Status(7);
+    let prepare = Access::Exchange {
+        word: status,
+        old: 13,
+        new: 14,
+    };
+    commit(&rt, &mut op, &reads, prepare, 13);
+    let changing = 9_223_372_036_854_775_808;
+    commit(&rt, &mut op, &reads, Access::SetBits(meta, changing), 0);
+    commit(&rt, &mut op, &reads, Access::Load(Word::Clock), 4);
+    commit(&rt, &mut op, &reads, Access::Load(Word::Meta(Addr(3))), 1);
+    let decide = Access::Exchange {
+        word: Word::Clock,
+        old: 4,
+        new: 5,
+    };
+    commit(&rt, &mut op, &reads, decide, 4);
+    commit(
+        &rt,
+        &mut op,
+        &reads,
+        Access::Store(Word::Value(Addr(2)), 20),
+        0,
+    );
+    commit(&rt, &mut op, &reads, Access::Swap(meta, 5), 0);
+    commit(&rt, &mut op, &reads, Access::Store(status, 12), 14);
+    assert_eq!(rt; op.end(), Some(CommitEnd::Stamp(5)));
+    Ok(())
+}
