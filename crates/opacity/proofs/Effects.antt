@@ -21,7 +21,7 @@ if_view : (b : Bool) (v w : World) → v.view ≡ w.view → (if b then v else w
 if_view true v w same = same
 if_view false v w same = refl
 
-words_view : (w : World) (t : Attempt) (this : Act) → (words_after w t this).view ≡ w.view
+pub words_view : (w : World) (t : Attempt) (this : Act) → (words_after w t this).view ≡ w.view
 unfolding words_after
 words_view w t (TakeClock old) = if_view (nat_eq w.clock old) (record w { clock = suc old; history = w.history ++ entry_of t ∷ [] }) w refl
 words_view w t (TakeStatus p old new) = if_view (same_status (w.status p) old) (with_status w p new) w refl

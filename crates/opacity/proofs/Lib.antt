@@ -37,3 +37,6 @@ pub mod Truths
 pub mod Tables
 pub mod WordSteps
 pub mod NextAccess
+pub mod TableSteps
+pub mod PlainSteps
+pub mod PlainOpening

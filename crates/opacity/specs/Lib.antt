@@ -2,3 +2,5 @@ pub mod Runs
 pub mod Effects
 pub mod Alone
 pub mod Words
+pub mod Plain
+pub mod Facts

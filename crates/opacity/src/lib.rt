@@ -3,3 +3,9 @@
 
 pub mod laws;
 pub mod words;
+mod world;
+
+pub use world::World;
+
+#[cfg(test)]
+mod tests;

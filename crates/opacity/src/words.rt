@@ -1,11 +1,12 @@
 //! The laws of words: what an access does to the words of a table is what it does to the world that they show.
-ghost use Rattle.std.specs.Prelude.{◌≡◌, ℕ, List, Some};
+ghost use Rattle.std.specs.Prelude.{◌≡◌, ◌⊎◌, ◌++◌, ◌∷◌, [], ℕ, List, Some, slice_index};
 ghost use Rattle.opacity.specs.Words.{BringsWords, FieldsFit, IsOfTable, IsTable, table_after, word_found, word_of};
-ghost use Rattle.stm_model.specs.Accesses.{Act, access_of, answer_of, next};
+ghost use Rattle.stm_model.specs.Accesses.{Act, TakeClock, access_of, answer_of, next};
 ghost use Rattle.stm_model.specs.Attempt.{Attempt};
 ghost use Rattle.stm_model.specs.History.{Entry};
 ghost use Rattle.stm_model.specs.Safe.{Safe};
-ghost use Rattle.stm_model.specs.World.{IsCaller, Terms, View, World, attempt_of, found, words_after, world_of};
+ghost use Rattle.stm_model.specs.World.{IsCaller, Terms, View, World, attempt_of, entry_of, found, step, words_after, world_of};
+ghost use Rattle.stm_model.specs.declared.access.Access.{Access};
 
 use stm_model::Law;
 
@@ -16,12 +17,16 @@ pub fn what_is_found_is_the_word()
 {}
 
 /// The world after an access is the one that the words show after it: the clock, each status, each cell's
-/// metadata and value. The history is that of the world after the access, and the views stay.
+/// metadata and value. The views stay, and so does the history, unless the access is an exchange of the clock
+/// that is won.
 pub fn the_words_show_the_world_after()
-    ensures { (terms : Terms) (words : List ℕ) (history : List Entry) (view : ℕ → View) (t : Attempt) (act : Act) → IsTable terms words →
+    ensures world { (terms : Terms) (words : List ℕ) (history : List Entry) (view : ℕ → View) (t : Attempt) (act : Act) → IsTable terms words →
         IsOfTable terms (word_of (access_of act)) → FieldsFit act →
         words_after (world_of terms words history view) t act
         ≡ world_of terms (table_after terms words (access_of act)) (words_after (world_of terms words history view) t act).history view }
+    ensures history { (terms : Terms) (words : List ℕ) (history : List Entry) (view : ℕ → View) (t : Attempt) (act : Act) →
+        (let after = words_after (world_of terms words history view) t act in (after.history ≡ history)
+        ⊎ ((act ≡ TakeClock (slice_index words 0)) × (after.history ≡ history ++ entry_of t ∷ []))) }
 {}
 
 /// In a safe world the access that a caller's attempt makes next goes to a word of the table, and the fields
@@ -31,4 +36,18 @@ pub fn a_next_access_fits<L: Law>()
         next (attempt_of w p) ≡ Some act → IsOfTable terms (word_of (access_of act)) }
     ensures fields { (law : L) (terms : Terms) (w : World) (p : ℕ) (act : Act) → Safe (L.lawful law) (L.may law) terms w → IsCaller terms p →
         next (attempt_of w p) ≡ Some act → BringsWords (access_of act) → FieldsFit act }
+{}
+
+/// A table stays one.
+pub fn a_table_stays_a_table()
+    ensures { (terms : Terms) (words : List ℕ) (access : Access) → IsTable terms words → BringsWords access →
+        IsTable terms (table_after terms words access) }
+{}
+
+/// In a safe world that the words of a table show, a caller's step is its access to the table.
+pub fn a_step_is_an_access<L: Law>()
+    ensures { (law : L) (terms : Terms) (words : List ℕ) (history : List Entry) (view : ℕ → View) (p : ℕ) (act : Act) →
+        (let w = world_of terms words history view in Safe (L.lawful law) (L.may law) terms w → IsTable terms words → IsCaller terms p →
+        next (view p).attempt ≡ Some act → BringsWords (access_of act) →
+        step w p ≡ world_of terms (table_after terms words (access_of act)) (step w p).history (step w p).view) }
 {}

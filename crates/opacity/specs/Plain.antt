@@ -1,0 +1,38 @@
+-- The world as plain data.
+use Rattle.std.specs.Prelude.{◌≡◌, ℕ, ◌+◌, ◌*◌, ◌-◌, ◌<◌, ◌≤◌, false, IfSome, IfNone, List, length, slice_index, slice_index_or, Option}
+use Rattle.stm_model.specs.Attempt.{Attempt, is_in_flight}
+use Rattle.stm_model.specs.Heap.{AreWords}
+use Rattle.stm_model.specs.History.{Entry}
+use Rattle.stm_model.specs.Safe.{Safe}
+use Rattle.stm_model.specs.World.{Terms, View, World, world_of}
+use Rattle.stm_model.specs.declared.access.Access.{Access}
+use Rattle.stm_model.specs.declared.access.Access.TheVariants.{Exchange}
+use Rattle.stm_model.specs.declared.access.Word.TheVariants.{Clock}
+
+-- what stays as it is
+abbrev pub terms_of : List ℕ → (callers limit : ℕ) → Terms
+terms_of opening callers limit = record { opening = opening; callers = callers; limit = limit }
+
+-- The crew shows the attempts of these views, that of caller p at index p - 1.
+pub record IsCrew {V : Type 0} (shows : V → Option Attempt) (callers : ℕ) (crew : List V) (view : ℕ → View) : Type 0 where
+  pub size : length crew ≡ callers
+  pub in_flight : (p : ℕ) (d : V) → 0 < p → p ≤ callers → IfSome (shows (slice_index_or crew (p - 1) d)) (λ t. (view p).attempt ≡ t)
+  pub at_rest : (p : ℕ) (d : V) → 0 < p → p ≤ callers → IfNone (shows (slice_index_or crew (p - 1) d)) (is_in_flight (view p).attempt ≡ false)
+
+-- The access is not the exchange of the clock.
+unfoldable pub IsUndecided : Access → Type 0
+IsUndecided (Exchange Clock old new) = ⊥
+IsUndecided access = Unit {0}
+
+-- The words with which a table opens, once so many values are put in: these values, and else 0.
+pub record OpensTo (opening : List ℕ) (callers count : ℕ) (words : List ℕ) : Type 0 where
+  pub size : length words ≡ callers + 1 + 2 * length opening
+  pub each : AreWords words
+  pub front : (place : ℕ) → place ≤ callers → slice_index words place ≡ 0
+  pub metas : (cell : ℕ) → slice_index words (callers + 1 + 2 * cell) ≡ 0
+  pub values : (cell : ℕ) → cell < count → slice_index words (callers + 2 + 2 * cell) ≡ slice_index opening cell
+
+-- The words show this world, with this history and its views, and it is safe.
+pub record ShowsSafe (lawful : List ℕ → Type 0) (may : List ℕ → List ℕ → Type 0) (terms : Terms) (words : List ℕ) (history : List Entry) (w : World) : Type 0 where
+  pub shows : w ≡ world_of terms words history w.view
+  pub safe : Safe lawful may terms w
