@@ -1,11 +1,12 @@
 -- What a caller does that has no attempt in flight keeps the world safe.
-use Rattle.std.proofs.Common.{◌≡◌, ◌≢◌, ℕ, ◌<◌, ◌≤◌, ◌⊎◌, ◌++◌, true, List, [], ◌∷◌, refl, sym, ap, ◌∙◌, arith, inl, inr}
+use Rattle.std.proofs.Common.{◌≡◌, ◌≢◌, ℕ, ◌<◌, ◌≤◌, ◌⊎◌, ◌++◌, true, List, [], ◌∷◌, length, refl, sym, ap, ◌∙◌, arith, inl, inr}
 use Rattle.std.proofs.lemmas.Bool.{cases_eq}
 use Rattle.meta_word.specs.declared.meta.Meta.{Meta}
 use Rattle.stm_model.specs.Attempt.{Attempt, holds, marks, stamp_of, unstored_at}
 use Rattle.stm_model.specs.Heap.{writes_to}
 use Rattle.stm_model.specs.Safe.{EntriesAreCallers, IsBeingWritten, HoldsNewest, Safe, SafeCell, SafeView, caller_at, stamp_on}
 use Rattle.stm_model.specs.World.{IsCaller, Terms, View, World, attempt_of, cells_in, words_after, look, replaced, wait, with_view}
+use Rattle.opacity.specs.Effects.{learn}
 use Rattle.opacity.proofs.Cells.{MovesOn, SameCell, cell_same, onward_of}
 use Rattle.opacity.proofs.Onward.{Continues, Onward, attempt_onward, continues_same}
 use Rattle.opacity.proofs.Places.{attempt_else, attempt_here, replaced_else, replaced_here}
@@ -104,6 +105,16 @@ module _ (lawful : List ℕ → Type 0) (may : List ℕ → List ℕ → Type 0)
 
     pub look_safe : Safe lawful may terms (look w p)
     look_safe = calm_safe lawful may terms w w.meta p looks safe refl looks_safe sees_more (λ cell within. inl (same_attempts lawful may terms w w.meta p looks safe refl looks_safe sees_more cell refl))
+
+  module _ (low : p ≤ terms.callers) (n : ℕ) (more : (w.view p).seen ≤ n) (there : n ≤ length w.history) where
+    abbrev learned : View
+    learned = record (w.view p) { seen = n }
+
+    learned_safe : SafeView w learned
+    learned_safe = let old = safe.views p low in record { seen = there; since = omega (arith, old.since, more); clock = old.clock; fresh = old.fresh }
+
+    pub learn_safe : Safe lawful may terms (learn w p n)
+    learn_safe = calm_safe lawful may terms w w.meta p learned safe refl learned_safe more (λ cell within. inl (same_attempts lawful may terms w w.meta p learned safe refl learned_safe more cell refl))
 
   module _ (caller : IsCaller terms p) (cell : ℕ) (within : cell < cells_in terms) where
     abbrev meta : Meta

@@ -39,4 +39,5 @@ pub mod WordSteps
 pub mod NextAccess
 pub mod TableSteps
 pub mod PlainSteps
+pub mod PlainDecides
 pub mod PlainOpening

@@ -5,7 +5,7 @@ use Rattle.meta_word.specs.declared.status.Phase.TheVariants.{Active}
 use Rattle.meta_word.specs.declared.status.TxnStatus.{TxnStatus}
 use Rattle.stm_model.specs.Accesses.{TakeClock, next}
 use Rattle.stm_model.specs.Attempt.{Attempt, DoomOwner}
-use Rattle.stm_model.specs.World.{Event, Looks, Moves, Steps, Waits, World, attempt_of}
+use Rattle.stm_model.specs.World.{Event, Looks, Moves, Steps, Waits, World, attempt_of, with_view}
 
 -- whose event it is
 abbrev pub caller_of : Event → ℕ
@@ -29,3 +29,7 @@ pub record IsToDoom (t : Attempt) (owner : ℕ) (status : TxnStatus) : Type 0 wh
   pub stands : t.stage ≡ DoomOwner cell value left first second status
   pub owned : second.owner ≡ owner
   pub active : status.phase ≡ Active
+
+-- A caller has seen the first n entries of the history, as another may tell it.
+abbrev pub learn : World → ℕ → ℕ → World
+learn w p n = with_view w p (record (w.view p) { seen = n })

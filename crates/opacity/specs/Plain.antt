@@ -1,5 +1,5 @@
 -- The world as plain data.
-use Rattle.std.specs.Prelude.{◌≡◌, ℕ, ◌+◌, ◌*◌, ◌-◌, ◌<◌, ◌≤◌, false, IfSome, IfNone, List, length, slice_index, slice_index_or, Option}
+use Rattle.std.specs.Prelude.{◌≡◌, ℕ, ◌+◌, ◌*◌, ◌-◌, ◌<◌, ◌≤◌, false, IfSome, IfNone, List, length, map, slice_index, slice_index_or, Option}
 use Rattle.stm_model.specs.Attempt.{Attempt, is_in_flight}
 use Rattle.stm_model.specs.Heap.{AreWords}
 use Rattle.stm_model.specs.History.{Entry}
@@ -8,6 +8,8 @@ use Rattle.stm_model.specs.World.{Terms, View, World, world_of}
 use Rattle.stm_model.specs.declared.access.Access.{Access}
 use Rattle.stm_model.specs.declared.access.Access.TheVariants.{Exchange}
 use Rattle.stm_model.specs.declared.access.Word.TheVariants.{Clock}
+use Rattle.stm_model.specs.declared.note.Note.{Note}
+use Rattle.opacity.specs.declared.world.Committed.{Committed}
 
 -- what stays as it is
 abbrev pub terms_of : List ℕ → (callers limit : ℕ) → Terms
@@ -36,3 +38,15 @@ pub record OpensTo (opening : List ℕ) (callers count : ℕ) (words : List ℕ)
 pub record ShowsSafe (lawful : List ℕ → Type 0) (may : List ℕ → List ℕ → Type 0) (terms : Terms) (words : List ℕ) (history : List Entry) (w : World) : Type 0 where
   pub shows : w ≡ world_of terms words history w.view
   pub safe : Safe lawful may terms w
+
+-- the entry that is kept so
+abbrev pub entry_in : Committed → Entry
+entry_in kept = record { caller = kept.caller; serial = kept.serial; reads = kept.reads.items; writes = kept.writes.items }
+
+-- the history that is kept so
+abbrev pub history_of : List Committed → List Entry
+history_of kept = map entry_in kept
+
+-- notes as writes: the cells with their values
+abbrev pub writes_in : List Note → List (ℕ × ℕ)
+writes_in notes = map (λ note. (note.addr.0, note.value)) notes

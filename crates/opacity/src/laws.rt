@@ -2,7 +2,7 @@
 ghost use Rattle.std.specs.Prelude.{◌≡◌, ◌≢◌, ◌⊎◌, ◌++◌, ◌∷◌, ◌-◌, ◌<◌, ◌≤◌, [], ℕ, IfSome, IsTrue, List, Some, length};
 ghost use Rattle.meta_word.specs.declared.status.Phase.TheVariants.{Doomed};
 ghost use Rattle.opacity.specs.Alone.{IsLone, IsUndisturbed, LeavesAlone};
-ghost use Rattle.opacity.specs.Effects.{IsToDoom, WinsClock, caller_of};
+ghost use Rattle.opacity.specs.Effects.{IsToDoom, WinsClock, caller_of, learn};
 ghost use Rattle.opacity.specs.Runs.{MeetAllOwed};
 ghost use Rattle.std.specs.List.{All};
 ghost use Rattle.stm_model.specs.Attempt.{Announce, Prepare, cause_at};
@@ -103,4 +103,10 @@ pub fn an_only_caller_is_undisturbed<L: Law>()
         L.lawful law terms.opening → terms.callers ≡ 1 → MayRun terms (opened terms settings) events →
         MeetAllOwed (L.lawful law) (L.may law) terms (opened terms settings) events →
         IsUndisturbed (attempt_of (run (opened terms settings) events) 1) }
+{}
+
+/// A caller may learn of more of the history than it has seen, without an access.
+pub fn a_caller_may_learn_more<L: Law>()
+    ensures { (law : L) (terms : Terms) (w : World) (p n : ℕ) → p ≤ terms.callers → (w.view p).seen ≤ n → n ≤ length w.history →
+        Safe (L.lawful law) (L.may law) terms w → Safe (L.lawful law) (L.may law) terms (learn w p n) }
 {}

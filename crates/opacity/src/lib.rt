@@ -5,7 +5,7 @@ pub mod laws;
 pub mod words;
 mod world;
 
-pub use world::World;
+pub use world::{Committed, World};
 
 #[cfg(test)]
 mod tests;

@@ -1,21 +1,33 @@
 //! The world as plain data.
-ghost use Rattle.std.specs.Prelude.{◌≡◌, ◌+◌, ◌*◌, ◌<◌, ◌^◌, ◌≤◌, ℕ, List, [], IfOk, Some, length, slice_index};
+ghost use Rattle.std.specs.Prelude.{◌≡◌, ◌+◌, ◌*◌, ◌<◌, ◌^◌, ◌≤◌, ◌++◌, ◌∷◌, ◌≢◌, ℕ, List, [], IfOk, OnErr, OnOk, Some, length, slice_index, slice_set};
 ghost use Rattle.meta_word.specs.declared.meta.TheConstants.{MAX_OWNER, MAX_VERSION};
-ghost use Rattle.opacity.specs.Plain.{IsCrew, IsUndecided, OpensTo, ShowsSafe, terms_of};
+ghost use Rattle.opacity.specs.Plain.{IsCrew, IsUndecided, OpensTo, ShowsSafe, entry_in, history_of, terms_of, writes_in};
 ghost use Rattle.opacity.specs.Words.{BringsWords, IsOfTable, effect, table_after, word_found, word_of};
-ghost use Rattle.stm_model.specs.Accesses.{LoadClock, SetPending, access_of, next_access};
+ghost use Rattle.stm_model.specs.Accesses.{LoadClock, SetPending, TakeClock, access_of, next, next_access};
 ghost use Rattle.stm_model.specs.Attempt.{Ended};
 ghost use Rattle.opacity.specs.Facts.{AreWords-prop};
 ghost use Rattle.stm_model.specs.Heap.{AreWords};
 ghost use Rattle.stm_model.specs.History.{Entry};
 ghost use Rattle.stm_model.specs.Safe.{Safe};
+ghost use Rattle.meta_word.specs.Status.{status_of};
 ghost use Rattle.stm_model.specs.declared.settings.Settings.{Settings};
-ghost use Rattle.stm_model.specs.World.{IsCaller, View, cells_in, look, opened, place_of, step, wait, world_of};
+ghost use Rattle.stm_model.specs.World.{IsCaller, MeetsOwed, Steps, View, cells_in, look, opened, place_of, step, wait, world_of};
 
+use meta_word::unpack_status;
 use std::alloc::Global;
-use stm_model::{Access, Law, Memory, Shown, Word};
+use stm_model::{Access, Law, Memory, Note, Notes, Shown, Word};
 
-/// The words of a world, with what stays as it is. Its history and the callers' views stand in the
+/// A committed attempt: whose it was, its number among that caller's attempts, what it had read, and
+/// the cells that it wrote with their values.
+#[derive(Drop)]
+pub struct Committed {
+    pub caller: u16,
+    pub serial: u64,
+    pub reads: Vec<Note>,
+    pub writes: Vec<(u32, u64)>,
+}
+
+/// The words of a world and its history, with what stays as it is. The callers' views stand in the
 /// contracts alone.
 #[derive(Drop)]
 pub struct World<L: Law + Drop> {
@@ -26,6 +38,9 @@ pub struct World<L: Law + Drop> {
     /// The limit of its clock.
     pub limit: u64,
     pub words: Vec<u64>,
+    /// What committed, in order.
+    pub history: Vec<Committed>,
+    alloc: Global,
     ghost short: { length opening.items < 2 ^ 32 },
     ghost each: { AreWords words.items } by { AreWords-prop words.items },
     ghost size: { length words.items ≡ callers + 1 + 2 * length opening.items },
@@ -75,6 +90,29 @@ fn opening_words(alloc: Global, callers: u16, opening: &[u64]) -> Result<Vec<u64
     Ok(words)
 }
 
+// The notes of an attempt.
+fn noted<N: Notes>(alloc: Global, notes: &N) -> Result<Vec<Note>, Memory>
+    ensures { IfOk result (λ list. list.items ≡ N.notes notes.now) }
+{
+    let mut list = Vec::new(alloc);
+    for i in 0..notes.len() {
+        list.push(notes.at(i))?;
+    }
+    Ok(list)
+}
+
+// The writes of an attempt.
+fn written<W: Notes>(alloc: Global, writes: &W) -> Result<Vec<(u32, u64)>, Memory>
+    ensures { IfOk result (λ list. list.items ≡ writes_in (W.notes writes.now)) }
+{
+    let mut list = Vec::new(alloc);
+    for i in 0..writes.len() {
+        let write = writes.at(i);
+        list.push((write.addr.0, write.value))?;
+    }
+    Ok(list)
+}
+
 impl<L: Law + Drop> World<L> {
     /// The world as it opens over a heap that may be committed.
     pub fn new(
@@ -92,6 +130,7 @@ impl<L: Law + Drop> World<L> {
         ensures opening { IfOk result (λ world. world.opening.items ≡ opening.now) }
         ensures callers { IfOk result (λ world. world.callers ≡ callers) }
         ensures limit { IfOk result (λ world. world.limit ≡ limit) }
+        ensures history { IfOk result (λ world. world.history.items ≡ []) }
         ensures opens { IfOk result (λ world. (settings : Settings) → (let terms = terms_of opening.now callers limit in
             world_of terms world.words.items [] (opened terms settings).view ≡ opened terms settings)) }
         ensures safe { IfOk result (λ world. (settings : Settings) → settings.clock ≡ limit → (let terms = terms_of opening.now callers limit in
@@ -105,6 +144,8 @@ impl<L: Law + Drop> World<L> {
             callers,
             limit,
             words,
+            history: Vec::new(alloc),
+            alloc,
         })
     }
 
@@ -144,6 +185,7 @@ impl<L: Law + Drop> World<L> {
         ensures brings { BringsWords access }
         ensures found { result ≡ slice_index self.old.words.items (place_of self.old.callers (word_of access)) }
         ensures words { self.new.words.items ≡ table_after (terms_of self.old.opening.items self.old.callers self.old.limit) self.old.words.items access }
+        ensures history { self.new.history ≡ self.old.history }
         ensures law { self.new.law ≡ self.old.law }
         ensures opening { self.new.opening ≡ self.old.opening }
         ensures callers { self.new.callers ≡ self.old.callers }
@@ -164,6 +206,7 @@ impl<L: Law + Drop> World<L> {
         requires undecided { IsUndecided access }
         ensures found { result ≡ word_found (terms_of self.old.opening.items self.old.callers self.old.limit) self.old.words.items access }
         ensures words { self.new.words.items ≡ table_after (terms_of self.old.opening.items self.old.callers self.old.limit) self.old.words.items access }
+        ensures history { self.new.history ≡ self.old.history }
         ensures law { self.new.law ≡ self.old.law }
         ensures opening { self.new.opening ≡ self.old.opening }
         ensures callers { self.new.callers ≡ self.old.callers }
@@ -182,5 +225,67 @@ impl<L: Law + Drop> World<L> {
             ShowsSafe (L.lawful self.old.law) (L.may self.old.law) terms self.new.words.items history (wait w caller cell)) }
     {
         self.access(access)
+    }
+
+    // What a caller's latest attempt leaves in the history with these notes and writes.
+    #[tactic(auto, unfolding(crate::specs::Words::IsOfTable, stm_model::specs::World::place_of))]
+    fn entry<N: Notes, W: Notes>(
+        &self,
+        caller: u16,
+        reads: &N,
+        writes: &W,
+    ) -> Result<Committed, Memory>
+        requires { IsCaller (terms_of self.now.opening.items self.now.callers self.now.limit) caller }
+        ensures { IfOk result (λ kept. entry_in kept ≡ record { caller = caller; serial = (status_of (slice_index self.now.words.items caller)).serial; reads = N.notes reads.now; writes = writes_in (W.notes writes.now) }) }
+    {
+        let reads = noted(self.alloc, reads)?;
+        let writes = written(self.alloc, writes)?;
+        Ok(Committed {
+            caller,
+            serial: unpack_status(self.word(Word::Status(caller))).serial,
+            reads,
+            writes,
+        })
+    }
+
+    /// Makes the exchange of the clock that a caller's shown attempt makes next, from `old`, and gives the
+    /// clock that it found. Where it is won, the attempt's entry comes last in the history. What the words
+    /// show afterwards, with the history and the views after the step, is the world after it, and safe.
+    #[tactic(auto, unfolding(crate::specs::Words::IsOfTable, stm_model::specs::World::place_of))]
+    pub fn decide<V: Shown, N: Notes, W: Notes>(
+        &mut self,
+        caller: u16,
+        old: u64,
+        crew: &[V],
+        reads: &N,
+        writes: &W,
+    ) -> Result<u64, Memory>
+        requires caller { IsCaller (terms_of self.old.opening.items self.old.callers self.old.limit) caller }
+        requires old { old < MAX_VERSION }
+        ensures found { IfOk result (λ clock. clock ≡ slice_index self.old.words.items 0) }
+        ensures memory { OnErr result ((self.new.words.items ≡ self.old.words.items) × (self.new.history.items ≡ self.old.history.items)) }
+        ensures lost { slice_index self.old.words.items 0 ≢ old → (self.new.words.items ≡ self.old.words.items) × (self.new.history.items ≡ self.old.history.items) }
+        ensures won { OnOk result (slice_index self.old.words.items 0 ≡ old → (self.new.words.items ≡ slice_set self.old.words.items 0 (old + 1)) ×
+            (history_of self.new.history.items ≡ history_of self.old.history.items ++ record { caller = caller; serial = (status_of (slice_index self.old.words.items caller)).serial; reads = N.notes reads.now; writes = writes_in (W.notes writes.now) } ∷ [])) }
+        ensures law { self.new.law ≡ self.old.law }
+        ensures opening { self.new.opening ≡ self.old.opening }
+        ensures callers { self.new.callers ≡ self.old.callers }
+        ensures limit { self.new.limit ≡ self.old.limit }
+        ensures step { OnOk result ((view : ℕ → View) → IsCrew V.shows self.old.callers crew.now view →
+            (let terms = terms_of self.old.opening.items self.old.callers self.old.limit in let w = world_of terms self.old.words.items (history_of self.old.history.items) view in
+            let t = (view caller).attempt in
+            Safe (L.lawful self.old.law) (L.may self.old.law) terms w → next t ≡ Some (TakeClock old) → N.notes reads.now ≡ t.notes → writes_in (W.notes writes.now) ≡ t.now.writes →
+            MeetsOwed (L.lawful self.old.law) (L.may self.old.law) terms w (Steps caller) →
+            ShowsSafe (L.lawful self.old.law) (L.may self.old.law) terms self.new.words.items (history_of self.new.history.items) (step w caller))) }
+    {
+        let entry = self.entry(caller, reads, writes)?;
+        let clock = self.clock();
+        if clock != old {
+            return Ok(clock);
+        }
+        self.history.push(entry)?;
+        let place = self.place(Word::Clock);
+        self.words[place] = old + 1;
+        Ok(clock)
     }
 }

@@ -1,0 +1,5 @@
+use Rattle.std.specs.Prelude.{◌≡◌, take}
+use Rattle.opacity.proofs.world.noted.Given as goal
+
+abbrev pub invariant-loop-i : goal.invariant-loop-i
+invariant-loop-i g l = l.list.items ≡ take l.i (g.N.Notes.notes l.notes)
