@@ -1,5 +1,5 @@
 -- The world as plain data.
-use Rattle.std.specs.Prelude.{◌≡◌, ℕ, ◌+◌, ◌*◌, ◌-◌, ◌<◌, ◌≤◌, false, IfSome, IfNone, List, length, map, slice_index, slice_index_or, Option}
+use Rattle.std.specs.Prelude.{◌≡◌, ℕ, ◌+◌, ◌*◌, ◌-◌, ◌<◌, ◌≤◌, false, IfSome, IfNone, List, length, map, slice_index, slice_index_or, Option, vec_capacity}
 use Rattle.stm_model.specs.Attempt.{Attempt, is_in_flight}
 use Rattle.stm_model.specs.Heap.{AreWords}
 use Rattle.stm_model.specs.History.{Entry}
@@ -50,3 +50,9 @@ history_of kept = map entry_in kept
 -- notes as writes: the cells with their values
 abbrev pub writes_in : List Note → List (ℕ × ℕ)
 writes_in notes = map (λ note. (note.addr.0, note.value)) notes
+
+-- Beside so many entries there is room for one more, with so many notes and writes.
+pub record HasRoom (spare : Committed) (entries room reads writes : ℕ) : Type 0 where
+  pub notes : reads ≤ vec_capacity spare.reads
+  pub written : writes ≤ vec_capacity spare.writes
+  pub entry : entries < room

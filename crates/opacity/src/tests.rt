@@ -88,6 +88,7 @@ fn a_write_is_committed(rt: HostRuntime) -> Result<(), Fail> {
         value: 9,
     })?;
     let reads = Vec::new(rt.alloc());
+    world.reserve(0, 1)?;
     assert_eq!(rt; world.decide(1, 0, &crew, &reads, &writes)?, 0);
     assert_eq!(rt; world.clock(), 1);
     world.act(1, Access::Store(value, 9), &crew);

@@ -1,7 +1,7 @@
 //! The world as plain data.
-ghost use Rattle.std.specs.Prelude.{◌≡◌, ◌+◌, ◌*◌, ◌<◌, ◌^◌, ◌≤◌, ◌++◌, ◌∷◌, ◌≢◌, ℕ, List, [], IfOk, OnErr, OnOk, Some, length, slice_index, slice_set};
+ghost use Rattle.std.specs.Prelude.{◌≡◌, ◌+◌, ◌*◌, ◌<◌, ◌^◌, ◌≤◌, ◌++◌, ◌∷◌, ◌≢◌, ℕ, List, [], IfOk, OnErr, OnOk, Some, length, slice_index, slice_set, vec_capacity, IsOk};
 ghost use Rattle.meta_word.specs.declared.meta.TheConstants.{MAX_OWNER, MAX_VERSION};
-ghost use Rattle.opacity.specs.Plain.{IsCrew, IsUndecided, OpensTo, ShowsSafe, entry_in, history_of, terms_of, writes_in};
+ghost use Rattle.opacity.specs.Plain.{HasRoom, IsCrew, IsUndecided, OpensTo, ShowsSafe, entry_in, history_of, terms_of, writes_in};
 ghost use Rattle.opacity.specs.Words.{BringsWords, IsOfTable, effect, table_after, word_found, word_of};
 ghost use Rattle.stm_model.specs.Accesses.{LoadClock, SetPending, TakeClock, access_of, next, next_access};
 ghost use Rattle.stm_model.specs.Attempt.{Ended};
@@ -15,6 +15,7 @@ ghost use Rattle.stm_model.specs.World.{IsCaller, MeetsOwed, Steps, View, cells_
 
 use meta_word::unpack_status;
 use std::alloc::Global;
+use std::mem::replace;
 use stm_model::{Access, Law, Memory, Note, Notes, Shown, Word};
 
 /// A committed attempt: whose it was, its number among that caller's attempts, what it had read, and
@@ -40,6 +41,8 @@ pub struct World<L: Law + Drop> {
     pub words: Vec<u64>,
     /// What committed, in order.
     pub history: Vec<Committed>,
+    /// Room for the next entry, which `reserve` takes and `decide` uses up.
+    pub spare: Committed,
     alloc: Global,
     ghost short: { length opening.items < 2 ^ 32 },
     ghost each: { AreWords words.items } by { AreWords-prop words.items },
@@ -90,22 +93,36 @@ fn opening_words(alloc: Global, callers: u16, opening: &[u64]) -> Result<Vec<u64
     Ok(words)
 }
 
-// The notes of an attempt.
-fn noted<N: Notes>(alloc: Global, notes: &N) -> Result<Vec<Note>, Memory>
-    ensures { IfOk result (λ list. list.items ≡ N.notes notes.now) }
+// An entry without anything, which takes no memory.
+fn empty(alloc: Global) -> Committed {
+    Committed {
+        caller: 0,
+        serial: 0,
+        reads: Vec::new(alloc),
+        writes: Vec::new(alloc),
+    }
+}
+
+// The notes of an attempt, in the room of a list.
+fn noted<N: Notes>(room: Vec<Note>, notes: &N) -> Result<Vec<Note>, Memory>
+    ensures ok { IfOk result (λ list. list.items ≡ N.notes notes.now) }
+    ensures succeeds { length (N.notes notes.now) ≤ vec_capacity room → IsOk result }
 {
-    let mut list = Vec::new(alloc);
+    let mut list = room;
+    list.clear();
     for i in 0..notes.len() {
         list.push(notes.at(i))?;
     }
     Ok(list)
 }
 
-// The writes of an attempt.
-fn written<W: Notes>(alloc: Global, writes: &W) -> Result<Vec<(u32, u64)>, Memory>
-    ensures { IfOk result (λ list. list.items ≡ writes_in (W.notes writes.now)) }
+// The writes of an attempt, in the room of a list.
+fn written<W: Notes>(room: Vec<(u32, u64)>, writes: &W) -> Result<Vec<(u32, u64)>, Memory>
+    ensures ok { IfOk result (λ list. list.items ≡ writes_in (W.notes writes.now)) }
+    ensures succeeds { length (W.notes writes.now) ≤ vec_capacity room → IsOk result }
 {
-    let mut list = Vec::new(alloc);
+    let mut list = room;
+    list.clear();
     for i in 0..writes.len() {
         let write = writes.at(i);
         list.push((write.addr.0, write.value))?;
@@ -145,6 +162,7 @@ impl<L: Law + Drop> World<L> {
             limit,
             words,
             history: Vec::new(alloc),
+            spare: empty(alloc),
             alloc,
         })
     }
@@ -186,6 +204,7 @@ impl<L: Law + Drop> World<L> {
         ensures found { result ≡ slice_index self.old.words.items (place_of self.old.callers (word_of access)) }
         ensures words { self.new.words.items ≡ table_after (terms_of self.old.opening.items self.old.callers self.old.limit) self.old.words.items access }
         ensures history { self.new.history ≡ self.old.history }
+        ensures spare { self.new.spare ≡ self.old.spare }
         ensures law { self.new.law ≡ self.old.law }
         ensures opening { self.new.opening ≡ self.old.opening }
         ensures callers { self.new.callers ≡ self.old.callers }
@@ -207,6 +226,7 @@ impl<L: Law + Drop> World<L> {
         ensures found { result ≡ word_found (terms_of self.old.opening.items self.old.callers self.old.limit) self.old.words.items access }
         ensures words { self.new.words.items ≡ table_after (terms_of self.old.opening.items self.old.callers self.old.limit) self.old.words.items access }
         ensures history { self.new.history ≡ self.old.history }
+        ensures spare { self.new.spare ≡ self.old.spare }
         ensures law { self.new.law ≡ self.old.law }
         ensures opening { self.new.opening ≡ self.old.opening }
         ensures callers { self.new.callers ≡ self.old.callers }
@@ -231,21 +251,41 @@ impl<L: Law + Drop> World<L> {
     #[tactic(auto, unfolding(crate::specs::Words::IsOfTable, stm_model::specs::World::place_of))]
     fn entry<N: Notes, W: Notes>(
         &self,
+        spare: Committed,
         caller: u16,
         reads: &N,
         writes: &W,
     ) -> Result<Committed, Memory>
         requires { IsCaller (terms_of self.now.opening.items self.now.callers self.now.limit) caller }
-        ensures { IfOk result (λ kept. entry_in kept ≡ record { caller = caller; serial = (status_of (slice_index self.now.words.items caller)).serial; reads = N.notes reads.now; writes = writes_in (W.notes writes.now) }) }
+        ensures succeeds { length (N.notes reads.now) ≤ vec_capacity spare.reads → length (W.notes writes.now) ≤ vec_capacity spare.writes → IsOk result }
+        ensures entry { IfOk result (λ kept. entry_in kept ≡ record { caller = caller; serial = (status_of (slice_index self.now.words.items caller)).serial; reads = N.notes reads.now; writes = writes_in (W.notes writes.now) }) }
     {
-        let reads = noted(self.alloc, reads)?;
-        let writes = written(self.alloc, writes)?;
+        let reads = noted(spare.reads, reads)?;
+        let writes = written(spare.writes, writes)?;
         Ok(Committed {
             caller,
             serial: unpack_status(self.word(Word::Status(caller))).serial,
             reads,
             writes,
         })
+    }
+
+    /// Takes memory for the next exchange of the clock, with at most so many notes and writes.
+    pub fn reserve(&mut self, reads: usize, writes: usize) -> Result<(), Memory>
+        ensures room { OnOk result (HasRoom self.new.spare (length self.new.history.items) (vec_capacity self.new.history) reads writes) }
+        ensures words { self.new.words.items ≡ self.old.words.items }
+        ensures history { self.new.history.items ≡ self.old.history.items }
+        ensures law { self.new.law ≡ self.old.law }
+        ensures opening { self.new.opening ≡ self.old.opening }
+        ensures callers { self.new.callers ≡ self.old.callers }
+        ensures limit { self.new.limit ≡ self.old.limit }
+    {
+        self.spare.reads.clear();
+        self.spare.writes.clear();
+        self.spare.reads.reserve(reads)?;
+        self.spare.writes.reserve(writes)?;
+        self.history.reserve(1)?;
+        Ok(())
     }
 
     /// Makes the exchange of the clock that a caller's shown attempt makes next, from `old`, and gives the
@@ -264,6 +304,7 @@ impl<L: Law + Drop> World<L> {
         requires old { old < MAX_VERSION }
         ensures found { IfOk result (λ clock. clock ≡ slice_index self.old.words.items 0) }
         ensures memory { OnErr result ((self.new.words.items ≡ self.old.words.items) × (self.new.history.items ≡ self.old.history.items)) }
+        ensures succeeds { HasRoom self.old.spare (length self.old.history.items) (vec_capacity self.old.history) (length (N.notes reads.now)) (length (W.notes writes.now)) → IsOk result }
         ensures lost { slice_index self.old.words.items 0 ≢ old → (self.new.words.items ≡ self.old.words.items) × (self.new.history.items ≡ self.old.history.items) }
         ensures won { OnOk result (slice_index self.old.words.items 0 ≡ old → (self.new.words.items ≡ slice_set self.old.words.items 0 (old + 1)) ×
             (history_of self.new.history.items ≡ history_of self.old.history.items ++ record { caller = caller; serial = (status_of (slice_index self.old.words.items caller)).serial; reads = N.notes reads.now; writes = writes_in (W.notes writes.now) } ∷ [])) }
@@ -278,7 +319,8 @@ impl<L: Law + Drop> World<L> {
             MeetsOwed (L.lawful self.old.law) (L.may self.old.law) terms w (Steps caller) →
             ShowsSafe (L.lawful self.old.law) (L.may self.old.law) terms self.new.words.items (history_of self.new.history.items) (step w caller))) }
     {
-        let entry = self.entry(caller, reads, writes)?;
+        let spare = replace(&mut self.spare, empty(self.alloc));
+        let entry = self.entry(spare, caller, reads, writes)?;
         let clock = self.clock();
         if clock != old {
             return Ok(clock);

@@ -20,6 +20,6 @@ returns-clause-step g c = λ view crew safe next noted written owes.
     let same = sym c.clock-clock.ensures ∙ c.if-clock-old.false in
     let entry = entry_is (g.L.Law.lawful self.law) (g.L.Law.may self.law) (terms_of self.opening.items self.callers self.limit) self.words.items _ view c.args.caller c.args.old
     safe c.requires.caller next _ _ noted written in
-    rw (c.place-place.ensures.place, c.in_ok-push.ensures.items, map-append entry_in self.history.items _, c.in_ok-entry.ensures)
+    rw (c.place-place.ensures.place, c.in_ok-push.ensures.items, map-append entry_in self.history.items _, c.in_ok-entry.ensures.entry)
     (decides_won (g.L.Law.lawful self.law) (g.L.Law.may self.law) (terms_of self.opening.items self.callers self.limit) self.words.items _ view c.args.caller c.args.old
     safe c.requires.caller next (record { size = self.size; each = self.each }) below owes same _ entry)
