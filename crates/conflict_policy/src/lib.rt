@@ -23,14 +23,9 @@ pub enum Move {
 pub fn next_move(policy: Policy, rounds_done: u16, doom_tried: bool, meta: Meta, own: u16) -> Move
     ensures { result ≡ move_for policy rounds_done doom_tried meta own }
 {
-    let (looks, dooms) = match policy {
-        Policy::GiveWay => (0, false),
-        Policy::Look(more) => (more, false),
-        Policy::Doom(more) => (more, true),
-    };
-    if dooms && !doom_tried && meta.is_owned_by_another(own) {
+    if policy.dooms() && !doom_tried && meta.is_owned_by_another(own) {
         Move::TryDoom { owner: meta.owner }
-    } else if rounds_done <= looks {
+    } else if rounds_done <= policy.looks() {
         Move::Again
     } else {
         Move::GiveWay
