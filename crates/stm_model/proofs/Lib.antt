@@ -1,5 +1,6 @@
 pub mod Ascending
 pub mod HeapLemmas
+pub mod EvidenceLemmas
 pub mod HistoryLemmas
 pub mod OwesLemmas
 pub mod CellsLemmas

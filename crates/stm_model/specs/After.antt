@@ -2,10 +2,9 @@
 use Rattle.std.specs.Prelude.{ℕ, zero, suc, Bool, true, false, not, ◌&&◌, nat_eq, nat_lt, if◌then◌else◌, List, [], ◌∷◌, ◌++◌, map, Option, Some, None}
 use Rattle.std.specs.List.{find}
 use Rattle.meta_word.specs.Meta.{changing_by_another, owned_by_another, still_has}
+use Rattle.meta_word.specs.Policy.{dooms}
 use Rattle.meta_word.specs.Status.{phase_number}
 use Rattle.meta_word.specs.declared.meta.Meta.{Meta}
-use Rattle.meta_word.specs.declared.policy.Policy.{Policy}
-use Rattle.meta_word.specs.declared.policy.Policy.TheVariants.{Doom, GiveWay, Look}
 use Rattle.meta_word.specs.declared.status.Phase.{Phase}
 use Rattle.meta_word.specs.declared.status.Phase.TheVariants.{Active, Idle, Preparing}
 use Rattle.meta_word.specs.declared.status.TxnStatus.{TxnStatus}
@@ -47,17 +46,6 @@ same_status status other = nat_eq status.serial other.serial && nat_eq (phase_nu
 abbrev pub is_active : Phase → Bool
 is_active Active = true
 is_active _ = false
-
--- how many rounds more the policy grants
-abbrev pub looks : Policy → ℕ
-looks GiveWay = 0
-looks (Look more) = more
-looks (Doom more) = more
-
--- whether the policy tries to doom an owner
-abbrev pub dooms : Policy → Bool
-dooms (Doom more) = true
-dooms _ = false
 
 -- the note of a cell
 abbrev pub note_of : List Note → ℕ → Option Note

@@ -34,3 +34,7 @@ Evidence own settings (AttemptsEnd serial) = serial ≡ settings.attempts
 Evidence own settings Retry = Unit {0}
 Evidence own settings (User code) = Unit {0}
 Evidence own settings Memory = Unit {0}
+
+-- The words of the cause show it, whatever the settings are.
+abbrev pub IsEvident : ℕ → Cause → Type 0
+IsEvident own cause = (settings : Settings) → Evidence own settings cause

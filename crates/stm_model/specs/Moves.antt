@@ -1,6 +1,7 @@
 -- The moves of an attempt that touch no shared word. Here t is an attempt.
 use Rattle.std.specs.Prelude.{◌≡◌, ℕ, suc, ◌^◌, ◌<◌, ◌≤◌, false, nat_eq, nat_lt, if◌then◌else◌, IsFalse, List, [], ◌∷◌, ◌++◌, length, drop, Option, Some, None}
 use Rattle.std.specs.Map.{lookup}
+use Rattle.meta_word.specs.Policy.{looks}
 use Rattle.meta_word.specs.declared.status.TheConstants.{MAX_SERIAL}
 use Rattle.stm_model.specs.declared.access.Ask.{Ask}
 use Rattle.stm_model.specs.declared.access.Ask.TheVariants.{Get, Set, Enter, Keep, Undo, Hook, Later, Finish, Abandon}
@@ -9,7 +10,7 @@ use Rattle.stm_model.specs.declared.cause.Cause.TheVariants.{Full, Memory, Retry
 use Rattle.stm_model.specs.declared.ending.Ending.TheVariants.{Read}
 use Rattle.stm_model.specs.declared.note.Note.{Note}
 use Rattle.stm_model.specs.declared.settings.Settings.{Settings}
-use Rattle.stm_model.specs.After.{at, done, give_back_on, looks, note_of, rolled, run_all, stopped, answer_with}
+use Rattle.stm_model.specs.After.{at, done, give_back_on, note_of, rolled, run_all, stopped, answer_with}
 use Rattle.stm_model.specs.Attempt.{Acquire, Announce, Attempt, Close, Due, Ended, FirstLook, Late, Prepare, Ready, Ring, Run, Stage, Stopped, Write, cause_at, no_attempt}
 use Rattle.stm_model.specs.CellsState.{Book, outer}
 use Rattle.stm_model.specs.Handlers.{committing, preparing}
