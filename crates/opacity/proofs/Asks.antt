@@ -2,12 +2,13 @@
 use Rattle.std.proofs.Common.{IfSome, ◌≡◌, ℕ, nat_eq, nat_lt, ◌<◌, ◌^◌, true, false, Bool, Some, None, Option, if◌then◌else◌, is_some, List, [], ◌∷◌, ◌++◌, length, drop, refl, sym, ap, ◌∙◌, arith, subst}
 use Rattle.std.specs.Map.{keys_of, lookup}
 use Rattle.std.proofs.lemmas.List.{append-nil}
+use Rattle.meta_word.specs.Policy.{looks}
 use Rattle.stm_model.specs.declared.access.Ask.{Ask}
 use Rattle.stm_model.specs.declared.access.Ask.TheVariants.{Get, Set, Enter, Keep, Undo, Hook, Later, Finish, Abandon}
 use Rattle.stm_model.specs.declared.cause.Cause.{Cause}
 use Rattle.stm_model.specs.declared.cause.Cause.TheVariants.{TooDeep}
 use Rattle.stm_model.specs.declared.note.Note.{Note}
-use Rattle.stm_model.specs.After.{at, done, give_back_on, looks, note_of, stopped}
+use Rattle.stm_model.specs.After.{at, done, give_back_on, note_of, stopped}
 use Rattle.stm_model.specs.Attempt.{cause_at, Acquire, Attempt, Due, FirstLook, Late, Ready, Stage, Stopped, Write, flies_at}
 use Rattle.stm_model.specs.CellsState.{Book, outer}
 use Rattle.stm_model.specs.Evidence.{Evidence}

@@ -18,12 +18,13 @@ use Rattle.stm_model.specs.History.{IsCurrent}
 use Rattle.stm_model.specs.Owes.{Owes}
 use Rattle.stm_model.specs.Safe.{NamesNote, EndingAt, EndsSo, HasBegun, PhaseAt, Safe, SafeAttempt, SafeStage, WasSampled, stamp_on}
 use Rattle.stm_model.specs.World.{IsCaller, Terms, World, attempt_of, cells_in, words_after, clock_after, entry_of, found, seen_after, since_at, with_view}
+use Rattle.stm_model.proofs.EvidenceLemmas.{is_stale}
 use Rattle.opacity.proofs.Decides.{decided_safe}
 use Rattle.opacity.proofs.Ends.{MayRoll, rolled_fits}
 use Rattle.opacity.proofs.Fits.{Fits, ending_is, phase_is, safe_local, safe_seen, stage_is}
 use Rattle.opacity.proofs.ReadSteps.{knows_attempt, knows_clock, same_number}
 use Rattle.opacity.proofs.Samples.{not_written, sampled_all, sampled_more, sampled_start, still_current}
-use Rattle.opacity.proofs.Shown.{all_at, names_checked, stale_shown}
+use Rattle.opacity.proofs.Shown.{all_at, names_checked}
 use Rattle.opacity.proofs.Stands.{kept_flying, IsPlain, Sound, placed, sound_of}
 use Rattle.opacity.proofs.Stepping.{stepped}
 
@@ -167,7 +168,7 @@ module _ (lawful : List ℕ → Type 0) (may : List ℕ → List ℕ → Type 0)
           let still = still_current lawful may terms w safe t.prefix clock note within none (same_number _ _ tests.0) current sampled.low sampled.high in
           checks terms w p t stage tt (phase_is terms w p stage own is) (ending_is terms w p stage own is) sound lost clock behind at_stage.0 (omega (arith, sampled.high, safe.clock, safe.limit)) (sampled_more w t clock note behind sampled still)
       go false moved = rolled_fits terms w p t t stage (Stale note.addr note.version (w.meta note.addr.0)) (
-        stale_shown t.own note.version (w.meta note.addr.0) moved,
+        is_stale t.own note.version (w.meta note.addr.0) moved,
         names_checked sampled.checked behind t.notes note (w.meta note.addr.0) sampled.notes,
       ) (may_roll terms w p t stage tt (phase_is terms w p stage own is) (ending_is terms w p stage own is) sound) sound refl refl (omega arith) refl
 

@@ -38,6 +38,7 @@ pub mod Tables
 pub mod WordSteps
 pub mod NextAccess
 pub mod TableSteps
+pub mod TableStep
 pub mod PlainSteps
 pub mod PlainDecides
 pub mod PlainOpening

@@ -16,11 +16,12 @@ use Rattle.stm_model.specs.Evidence.{Evidence}
 use Rattle.stm_model.specs.History.{IsCurrent}
 use Rattle.stm_model.specs.Safe.{NamesNote, EndingAt, IsToRead, PhaseAt, Safe, SafeAttempt, SafeCell, SafeStage, WasFetched, WasSampled, WasSeen, stamp_on}
 use Rattle.stm_model.specs.World.{IsCaller, Terms, View, World, attempt_of, cells_in, words_after, clock_after, found, seen_after, since_at}
+use Rattle.stm_model.proofs.EvidenceLemmas.{has_moved, is_stale}
 use Rattle.stm_model.proofs.HistoryLemmas.{last_below}
 use Rattle.opacity.proofs.Ends.{stopped_open}
 use Rattle.opacity.proofs.Fits.{Fits, IsOpen, ending_is, goes_on_same, open_facts, open_fits, phase_is, safe_seen, stage_is}
 use Rattle.opacity.proofs.Samples.{fetched_now, not_written, noted_now, sampled_all, sampled_more, sampled_start, still_current}
-use Rattle.opacity.proofs.Shown.{all_at, Shows, moved_shown, names_checked, stale_shown}
+use Rattle.opacity.proofs.Shown.{all_at, Shows, names_checked}
 use Rattle.opacity.proofs.Stands.{IsPlain, Knows, Sound, sound_of}
 use Rattle.opacity.proofs.Stepping.{stepped}
 use Rattle.opacity.proofs.Walks.{among, distinct_push}
@@ -184,7 +185,7 @@ module _ (lawful : List ℕ → Type 0) (may : List ℕ → List ℕ → Type 0)
           extends terms w p t stage tt (phase_is terms w p stage own is) (ending_is terms w p stage own is) sound cell left first clock behind at_stage.0 at_stage.1 at_stage.2
           (sampled_more w t clock note behind at_stage.3 still)
       go false moved = stopped_open terms w p t stage tt (phase_is terms w p stage own is) (ending_is terms w p stage own is) sound (Stale note.addr note.version (w.meta note.addr.0)) (
-        stale_shown t.own note.version (w.meta note.addr.0) moved,
+        is_stale t.own note.version (w.meta note.addr.0) moved,
         names_checked at_stage.3.checked behind t.notes note (w.meta note.addr.0) at_stage.3.notes,
       )
 
@@ -230,4 +231,4 @@ module _ (lawful : List ℕ → Type 0) (may : List ℕ → List ℕ → Type 0)
             sound = noted_sound terms w p t stage tt (phase_is terms w p stage own is) (ending_is terms w p stage own is) sound note current at_stage.0.in_range at_stage.0.unnoted;
           })
           tt
-      go false moved = again terms w p t stage tt (phase_is terms w p stage own is) (ending_is terms w p stage own is) sound cell left (Moved (addr_of cell) first (w.meta cell)) (moved_shown t.own first (w.meta cell) at_stage.1.quiet moved, tt) at_stage.0
+      go false moved = again terms w p t stage tt (phase_is terms w p stage own is) (ending_is terms w p stage own is) sound cell left (Moved (addr_of cell) first (w.meta cell)) (has_moved t.own first (w.meta cell) at_stage.1.quiet moved, tt) at_stage.0

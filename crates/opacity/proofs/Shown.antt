@@ -1,45 +1,21 @@
 -- What the words of a cause show.
-use Rattle.std.proofs.Common.{None, ◌++◌, ◌<◌, length, get_or, length-append, arith, List, [], ◌∷◌, ap, if◌then◌else◌, ◌≡◌, ◌≢◌, ℕ, nat_eq, ◌⊎◌, ◌&&◌, not, true, false, Bool, IfSome, IsFalse, Option, Some, refl, sym, ◌∙◌, inl, inr, subst}
+use Rattle.std.proofs.Common.{None, ◌++◌, ◌<◌, length, get_or, length-append, arith, List, [], ◌∷◌, ap, if◌then◌else◌, ◌≡◌, ℕ, true, false, Bool, IfSome, Option, Some, refl, sym, ◌∙◌, inl, inr, subst}
 use Rattle.std.specs.List.{All}
 use Rattle.std.proofs.lemmas.Bool.Decides.{eqb_tells}
 use Rattle.std.proofs.lemmas.List.{get_or_at, get_or_default}
 use Rattle.std.proofs.lemmas.List.Elements.{All-head, All-tail}
-use Rattle.meta_word.specs.Meta.{changing_by_another, owned_by_another, still_has}
+use Rattle.meta_word.specs.Meta.{owned_by_another}
 use Rattle.meta_word.specs.declared.meta.Meta.{Meta}
 use Rattle.stm_model.specs.declared.cause.Cause.{Cause}
 use Rattle.stm_model.specs.declared.cause.Cause.TheVariants.{Full, Memory, Moved, Retry, Stale, User, WriteConflict}
 use Rattle.stm_model.specs.declared.note.Note.{Note}
 use Rattle.stm_model.specs.Attempt.{Attempt, cause_at}
-use Rattle.stm_model.specs.Evidence.{Evidence, HasMoved, IsStale}
+use Rattle.stm_model.specs.Evidence.{Evidence, HasMoved}
 use Rattle.stm_model.specs.Accesses.{addr_of}
 use Rattle.stm_model.specs.After.{note_of, write_refused}
 use Rattle.stm_model.specs.Refusing.{NotesVersion}
 use Rattle.stm_model.specs.Safe.{IsShown, NamesNote}
 use Rattle.stm_model.specs.Moves.{MayAbandon}
-
--- a test of a version and of a change that fails
-either_fails : (same : Bool) (loud : Bool) → (same && not loud) ≡ false → (same ≡ false) ⊎ (loud ≡ true)
-either_fails false loud test = inl refl
-either_fails true true test = inr refl
-either_fails true false test = cc
-
-pub stale_shown : (own version : ℕ) (meta : Meta) → still_has own version meta ≡ false → IsStale own version meta
-stale_shown own version meta test = elim (either_fails (nat_eq meta.version version) (changing_by_another own meta) test) [
-  | inl other ↦ inl (apart other)
-  | inr loud ↦ inr loud
-]
-  where
-    apart : nat_eq meta.version version ≡ false → meta.version ≢ version
-    apart other same = elim (eqb_tells meta.version version) [
-      | inl is ↦ let never : true ≡ false = sym is.0 ∙ other in cc
-      | inr is ↦ is.1 same
-    ]
-
-pub moved_shown : (own : ℕ) (first second : Meta) → IsFalse (changing_by_another own first) → still_has own first.version second ≡ false → HasMoved own first second
-moved_shown own first second quiet test = elim (stale_shown own first.version second test) [
-  | inl other ↦ inl (λ same. other (sym same))
-  | inr loud ↦ inr (inl (loud, quiet))
-]
 
 -- what an attempt shows of a cause, by its fields
 abbrev pub Shows : Attempt → Cause → Type 0

@@ -1,6 +1,7 @@
 -- Where an attempt may stand while no other is in flight, and how it goes on from there.
 use Rattle.std.proofs.Common.{◌≡◌, ℕ, drop, nat_eq, nat_lt, ◌<◌, ◌++◌, true, false, Bool, Some, None, Option, if◌then◌else◌, IfSome, List, [], ◌∷◌, length, refl, arith, subst}
 use Rattle.std.specs.Map.{lookup}
+use Rattle.meta_word.specs.Policy.{looks}
 use Rattle.meta_word.specs.declared.meta.Meta.{Meta}
 use Rattle.stm_model.specs.declared.access.Ask.{Ask}
 use Rattle.stm_model.specs.declared.access.Ask.TheVariants.{Get, Set, Enter, Keep, Undo, Hook, Later, Finish, Abandon}
@@ -8,7 +9,7 @@ use Rattle.stm_model.specs.declared.cause.Cause.{Cause}
 use Rattle.stm_model.specs.declared.cause.Cause.TheVariants.{ClockEnd, Full, Memory, Retry, TooDeep, User}
 use Rattle.stm_model.specs.declared.ending.Ending.TheVariants.{Rolled}
 use Rattle.stm_model.specs.declared.note.Note.{Note}
-use Rattle.stm_model.specs.After.{at, check_on, done, give_back_on, looks, mark_on, note_of, release_on, roll_on, rolled, stopped, store_on}
+use Rattle.stm_model.specs.After.{at, check_on, done, give_back_on, mark_on, note_of, release_on, roll_on, rolled, stopped, store_on}
 use Rattle.stm_model.specs.Attempt.{Announce, Begin, Ready, Late, Stopped, FirstLook, Renew, Extend, Fetch, SecondLook, Acquire, Own, SeeOwner, SeeAgain, DoomOwner, GiveBack, Prepare, Mark, Sample, Check, Decide, StoreValues, Release, RollBack, Close, Ended, Attempt, Due, Ring, Run, Stage, Write, cause_at}
 use Rattle.stm_model.specs.CellsState.{Book, outer}
 use Rattle.stm_model.specs.Heap.{put, writes_to}

@@ -1,11 +1,12 @@
 //! The laws of words: what an access does to the words of a table is what it does to the world that they show.
 ghost use Rattle.std.specs.Prelude.{◌≡◌, ◌⊎◌, ◌++◌, ◌∷◌, [], ℕ, List, Some, slice_index};
+ghost use Rattle.opacity.specs.Plain.{IsTableStep};
 ghost use Rattle.opacity.specs.Words.{BringsWords, FieldsFit, IsOfTable, IsTable, table_after, word_found, word_of};
 ghost use Rattle.stm_model.specs.Accesses.{Act, TakeClock, access_of, answer_of, next};
 ghost use Rattle.stm_model.specs.Attempt.{Attempt};
 ghost use Rattle.stm_model.specs.History.{Entry};
 ghost use Rattle.stm_model.specs.Safe.{Safe};
-ghost use Rattle.stm_model.specs.World.{IsCaller, Terms, View, World, attempt_of, entry_of, found, step, words_after, world_of};
+ghost use Rattle.stm_model.specs.World.{IsCaller, MeetsOwed, Steps, Terms, View, World, attempt_of, entry_of, found, step, words_after, world_of};
 ghost use Rattle.stm_model.specs.declared.access.Access.{Access};
 
 use stm_model::Law;
@@ -50,4 +51,14 @@ pub fn a_step_is_an_access<L: Law>()
         (let w = world_of terms words history view in Safe (L.lawful law) (L.may law) terms w → IsTable terms words → IsCaller terms p →
         next (view p).attempt ≡ Some act → BringsWords (access_of act) →
         step w p ≡ world_of terms (table_after terms words (access_of act)) (step w p).history (step w p).view) }
+{}
+
+/// All of it at once, for a table that callers share: in a safe world that the words of a table show, the
+/// access that a caller's attempt makes next is a step of the table, where the numbers that it brings are
+/// words and, if it wins the exchange of the clock, it meets what is owed.
+pub fn an_access_is_a_step_of_the_table<L: Law>()
+    ensures { (law : L) (terms : Terms) (words : List ℕ) (history : List Entry) (view : ℕ → View) (p : ℕ) (act : Act) →
+        (let w = world_of terms words history view in Safe (L.lawful law) (L.may law) terms w → IsTable terms words → IsCaller terms p →
+        next (view p).attempt ≡ Some act → BringsWords (access_of act) → MeetsOwed (L.lawful law) (L.may law) terms w (Steps p) →
+        IsTableStep (L.lawful law) (L.may law) terms words history view p act (step w p)) }
 {}
