@@ -7,9 +7,9 @@ use Rattle.op_read.specs.declared.extend.ExtendOp.{ExtendOp}
 use Rattle.op_read.specs.declared.extend.ExtendPlace.{ExtendPlace}
 use Rattle.op_read.specs.declared.extend.ExtendPlace.TheVariants.{Clock, Ended, Note as AtNote}
 use Rattle.stm_model.specs.declared.note.Note.{Note}
-use Rattle.op_read.specs.Read.{ShowsCause}
 use Rattle.stm_model.specs.After.{at, extend_on, stopped}
 use Rattle.stm_model.specs.Attempt.{Attempt, Fetch, Renew}
+use Rattle.stm_model.specs.Evidence.{IsEvident}
 
 -- the attempt that this one is while the extension stands so, for a read of a cell
 abbrev pub extending_at : ExtendPlace → (cell left : ℕ) → Meta → Attempt → Attempt
@@ -51,5 +51,5 @@ looks_left op = looks_left_at op.place
 
 -- Where the extension was refused, the words of the cause show it.
 abbrev pub ExtensionShows : ℕ → ExtendEnd → Type 0
-ExtensionShows own (Bad cause) = ShowsCause own cause
+ExtensionShows own (Bad cause) = IsEvident own cause
 ExtensionShows own _ = Unit {0}

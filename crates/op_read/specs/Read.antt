@@ -3,9 +3,6 @@ use Rattle.std.specs.Prelude.{◌≡◌, ℕ, ◌+◌, ◌*◌, [], ◌∷◌, �
 use Rattle.meta_word.specs.Meta.{changing_by_another}
 use Rattle.stm_model.specs.declared.access.Access.{Access}
 use Rattle.stm_model.specs.declared.access.Access.TheVariants.{Load}
-use Rattle.stm_model.specs.declared.cause.Cause.{Cause}
-use Rattle.stm_model.specs.declared.settings.Settings.{Settings}
-use Rattle.stm_model.specs.Evidence.{Evidence}
 use Rattle.op_read.specs.declared.read.ReadEnd.{ReadEnd}
 use Rattle.op_read.specs.declared.read.ReadEnd.TheVariants.{Got, NeedExtension, Bad}
 use Rattle.op_read.specs.declared.read.ReadOp.{ReadOp}
@@ -14,6 +11,7 @@ use Rattle.op_read.specs.declared.read.ReadPlace.TheVariants.{Ended, Fetch as At
 use Rattle.stm_model.specs.Accesses.{addr_of}
 use Rattle.stm_model.specs.After.{at, stopped, answer_with}
 use Rattle.stm_model.specs.Attempt.{Attempt, Fetch, FirstLook, Renew, SecondLook}
+use Rattle.stm_model.specs.Evidence.{IsEvident}
 
 -- an attempt that has read a cell
 abbrev pub got : Attempt → ℕ → ℕ → ℕ → Attempt
@@ -79,11 +77,7 @@ IsQuietAt own _ = Unit {0}
 abbrev pub IsQuiet : ReadOp → Type 0
 IsQuiet op = IsQuietAt op.own op.place
 
--- The words of the cause show it, whatever the settings are.
-abbrev pub ShowsCause : ℕ → Cause → Type 0
-ShowsCause own cause = (settings : Settings) → Evidence own settings cause
-
 -- Where the read was refused, the words of the cause show it.
 abbrev pub EndShows : ℕ → ReadEnd → Type 0
-EndShows own (Bad cause) = ShowsCause own cause
+EndShows own (Bad cause) = IsEvident own cause
 EndShows own _ = Unit {0}

@@ -68,7 +68,7 @@ impl ExtendOp {
     }
 
     /// Takes the word that the access found.
-    #[tactic(auto, unfolding(stm_model::specs::After::after_at, stm_model::specs::After::extended, stm_model::specs::Accesses::next_at, stm_model::specs::Accesses::answer_of))]
+    #[tactic(auto, using(stm_model::proofs::EvidenceLemmas::is_stale), unfolding(stm_model::specs::After::after_at, stm_model::specs::After::extended, stm_model::specs::Accesses::next_at, stm_model::specs::Accesses::answer_of, stm_model::specs::Evidence::Evidence))]
     pub fn take<N: Notes>(&mut self, notes: &N, answer: u64)
         requires along { IsAlong self.old (N.notes notes.now) }
         requires going { IsNone (end_of_extension self.old) }

@@ -4,10 +4,11 @@ ghost use Rattle.std.specs.Prelude.{◌≡◌, ◌<◌, ◌≤◌, ◌+◌, ◌*
 ghost use Rattle.stm_model.specs.Accesses.{next_access};
 ghost use Rattle.stm_model.specs.After.{after_word, at, look_again, looked, looked_twice};
 ghost use Rattle.stm_model.specs.Attempt.{Attempt, Fetch, FirstLook};
+ghost use Rattle.stm_model.specs.Evidence.{IsEvident};
 ghost use Rattle.meta_word.specs.declared.meta.Meta.{Meta};
 ghost use Rattle.op_read.specs.declared.read.ReadEnd.TheVariants.{NeedExtension};
 ghost use Rattle.op_read.specs.declared.read.ReadPlace.TheVariants.{FirstLook as AtFirstLook, SecondLook as AtSecondLook};
-ghost use Rattle.op_read.specs.Read.{EndShows, IsLoad, IsQuiet, IsReading, IsToExtend, ShowsCause, accesses_left, end_of_read, reading};
+ghost use Rattle.op_read.specs.Read.{EndShows, IsLoad, IsQuiet, IsReading, IsToExtend, accesses_left, end_of_read, reading};
 
 use meta_word::unpack_meta;
 use stm_model::{Access, Addr, Cause, Meta, Notes, Word};
@@ -47,6 +48,7 @@ impl ReadOp {
     /// A read that has made no access. It has one round more than `looks`.
     pub fn new(addr: Addr, own: u16, prefix: u64, looks: u16) -> ReadOp
         ensures begins { (t : Attempt) → reading result t ≡ at t (FirstLook addr.0 looks) }
+        ensures cell { result.addr ≡ addr }
         ensures going { end_of_read result ≡ None }
         ensures for_attempt { (t : Attempt) → t.own ≡ own → t.prefix ≡ prefix → IsReading result t }
         ensures quiet { IsQuiet result }
@@ -82,6 +84,7 @@ impl ReadOp {
     pub fn take<N: Notes>(&mut self, _notes: &N, answer: u64)
         requires { IsNone (end_of_read self.old) }
         ensures after { (t : Attempt) → t.due ≡ [] → IsReading self.old t → after_word (reading self.old t) answer ≡ reading self.new t }
+        ensures cell { self.new.addr ≡ self.old.addr }
         ensures same { (t : Attempt) → IsReading self.old t → IsReading self.new t }
         ensures quiet { IsQuiet self.old → IsQuiet self.new }
         ensures evidence { IsQuiet self.old → IfSome (end_of_read self.new) (EndShows self.old.own) }
@@ -103,10 +106,11 @@ impl ReadOp {
     }
 
     // A first look showed this.
-    #[tactic(auto, unfolding(stm_model::specs::After::looked))]
+    #[tactic(auto, unfolding(stm_model::specs::After::looked, stm_model::specs::Evidence::Evidence))]
     fn look(&mut self, first: Meta)
         requires { self.old.place ≡ AtFirstLook }
         ensures after { (t : Attempt) → IsReading self.old t → looked t self.old.addr.0 self.old.left first ≡ reading self.new t }
+        ensures cell { self.new.addr ≡ self.old.addr }
         ensures same { (t : Attempt) → IsReading self.old t → IsReading self.new t }
         ensures quiet { IsQuiet self.old → IsQuiet self.new }
         ensures evidence { IsQuiet self.old → IfSome (end_of_read self.new) (EndShows self.old.own) }
@@ -125,10 +129,11 @@ impl ReadOp {
     }
 
     // A second look showed this.
-    #[tactic(auto, unfolding(stm_model::specs::After::looked_twice))]
+    #[tactic(auto, using(stm_model::proofs::EvidenceLemmas::has_moved), unfolding(stm_model::specs::After::looked_twice, stm_model::specs::Evidence::Evidence))]
     fn look_twice(&mut self, first: Meta, value: u64, second: Meta)
         requires { self.old.place ≡ AtSecondLook first value }
         ensures after { (t : Attempt) → IsReading self.old t → looked_twice t self.old.addr.0 self.old.left first value second ≡ reading self.new t }
+        ensures cell { self.new.addr ≡ self.old.addr }
         ensures same { (t : Attempt) → IsReading self.old t → IsReading self.new t }
         ensures quiet { IsQuiet self.old → IsQuiet self.new }
         ensures evidence { IsQuiet self.old → IfSome (end_of_read self.new) (EndShows self.old.own) }
@@ -151,9 +156,10 @@ impl ReadOp {
     // A round is over: one more, or the read is refused.
     fn end_round(&mut self, cause: Cause)
         ensures after { (t : Attempt) → look_again t self.old.addr.0 self.old.left cause ≡ reading self.new t }
+        ensures cell { self.new.addr ≡ self.old.addr }
         ensures same { (t : Attempt) → IsReading self.old t → IsReading self.new t }
         ensures quiet { IsQuiet self.new }
-        ensures evidence { ShowsCause self.old.own cause → IfSome (end_of_read self.new) (EndShows self.old.own) }
+        ensures evidence { IsEvident self.old.own cause → IfSome (end_of_read self.new) (EndShows self.old.own) }
         ensures falls { (reads : ℕ) → accesses_left self.new reads ≤ self.old.left * (4 + reads) }
     {
         if self.left == 0 {
@@ -169,6 +175,7 @@ impl ReadOp {
         requires { IsToExtend self.old.place }
         ensures place { (meta : Meta) → end_of_read self.old ≡ Some (NeedExtension meta) → (t : Attempt) →
             reading self.new t ≡ at t (Fetch self.old.addr.0 self.old.left meta) }
+        ensures cell { self.new.addr ≡ self.old.addr }
         ensures going { end_of_read self.new ≡ None }
         ensures for_attempt { (t : Attempt) → t.own ≡ self.old.own → t.prefix ≡ prefix → IsReading self.new t }
         ensures quiet { IsQuiet self.old → IsQuiet self.new }

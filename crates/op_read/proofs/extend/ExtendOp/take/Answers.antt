@@ -1,7 +1,6 @@
 use Rattle.std.proofs.Common.{◌≡◌, true, false, sym, ◌∙◌}
 use Rattle.meta_word.specs.Meta.{meta_of, still_has}
 use Rattle.op_read.proofs.Along.{ends-stale, goes-on}
-use Rattle.op_read.proofs.Shown.{stale-shown}
 use Rattle.op_read.proofs.extend.ExtendOp.take.Goals as goal
 
 pub returns-then-still_has-clause-after : goal.returns-then-still_has-clause-after
@@ -14,7 +13,3 @@ pub returns-else-still_has-clause-after : goal.returns-else-still_has-clause-aft
 returns-else-still_has-clause-after g c = λ t cell left first nothing same reads.
     let stale : still_has t.own c.at-note.result.version (meta_of c.args.answer) ≡ false = rw (reads.own, sym c.unpack_meta-found.ensures.fields) (sym c.still_has.ensures ∙ c.if-still_has.false) in
     rw c.in-Note.is (rw c.unpack_meta-found.ensures.fields (ends-stale t cell left first c.in-Note.clock c.in-Note.index c.at-note.result (rw same c.at-note.ensures) c.args.answer nothing stale))
-
-pub returns-else-still_has-clause-evidence : goal.returns-else-still_has-clause-evidence
-returns-else-still_has-clause-evidence g c = λ settings.
-    stale-shown c.args.self.now.own c.at-note.result.version settings c.at-note.result.addr c.unpack_meta-found.result (sym c.still_has.ensures ∙ c.if-still_has.false)
