@@ -1,5 +1,5 @@
 //! A list of notes of distinct cells, with a number of additions that take no memory.
-ghost use Rattle.std.specs.Prelude.{◌≡◌, ◌≢◌, ◌+◌, ◌<◌, ◌≤◌, [], ◌∷◌, ◌++◌, None, length, slice_get, IsOk, MatchOption, OnErr, OnOk};
+ghost use Rattle.std.specs.Prelude.{◌≡◌, ◌≢◌, ◌+◌, ◌<◌, ◌≤◌, ◌^◌, [], ◌∷◌, ◌++◌, None, length, slice_get, IsOk, MatchOption, OnErr, OnOk};
 ghost use Rattle.std.specs.List.{All, Contains};
 ghost use Rattle.stm_model.specs.After.{note_of};
 ghost use Rattle.read_set.specs.Reads.{AreApart};
@@ -65,18 +65,21 @@ impl ReadSet {
         self.notes[index]
     }
 
-    /// How many notes there are. Its second clause is what every set keeps: no cell is noted twice.
+    /// How many notes there are. Its last clauses are what every set keeps: no cell is noted twice, and twice
+    /// the count still fits its type.
     pub fn len(&self) -> usize
         ensures count { result ≡ length self.now.notes }
         ensures apart { AreApart self.now.notes }
+        ensures fits { result < 2 ^ 63 }
     {
         self.notes.len()
     }
 
-    /// Takes memory for so many additions more.
+    /// Takes memory for so many additions more, where they aren't spare already.
     pub fn reserve(&mut self, more: usize) -> Result<(), Memory>
         ensures same { self.new.notes ≡ self.old.notes }
         ensures ok { OnOk result (more ≤ self.new.spare) }
+        ensures succeeds { more ≤ self.old.spare → IsOk result }
         ensures spare { self.old.spare ≤ self.new.spare }
     {
         self.notes.reserve(more)?;
