@@ -14,6 +14,9 @@ Keeps_same before after writes replaced mark is =
       same = rw (writes, replaced) refl;
     }
 
+pub Keeps_then : (before between after : Buffer) (mark : WriteMark) → Keeps before between mark → Keeps between after mark → Keeps before after mark
+Keeps_then before between after mark first second = record { still = second.still; same = second.same ∙ first.same }
+
 -- a write of one cell more
 pub Keeps_new : (before after : Buffer) (write : ℕ × ℕ) → after.writes ≡ before.writes ++ write ∷ [] → after.replaced ≡ before.replaced
     → (mark : WriteMark) → IsMark before mark → Keeps before after mark

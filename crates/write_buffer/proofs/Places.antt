@@ -1,5 +1,6 @@
 -- The place of a cell's write.
-use Rattle.std.proofs.Common.{◌≡◌, ◌≢◌, ℕ, zero, suc, ◌<◌, true, false, nat_eq, List, [], ◌∷◌, ◌++◌, length, get_or, set, slice_get, Some, None, refl, sym, ap, inl, inr, arith}
+use Rattle.std.proofs.Common.{◌≡◌, ◌≢◌, ℕ, zero, suc, ◌<◌, true, false, nat_eq, List, [], ◌∷◌, ◌++◌, length, get_or, set, slice_get, Option, Some, None, is_some, refl, sym, ap, ◌∙◌, inl, inr, arith}
+use Rattle.std.specs.Prelude.{MatchOption}
 use Rattle.std.specs.List.{All, AllByRecursion, HoldsAt, IsDistinct}
 use Rattle.std.specs.Map.{keys_of, lookup}
 use Rattle.std.proofs.lemmas.Bool.Decides.{eqb_tells, nat_tests}
@@ -7,7 +8,8 @@ use Rattle.std.proofs.lemmas.Cmp.{nat_eq_equiv}
 use Rattle.std.proofs.lemmas.List.Elements.{All-head, All-tail}
 use Rattle.std.proofs.lemmas.Map.Entries.{lookup_from_place}
 use Rattle.std.proofs.lemmas.Option.{slice_get_read}
-use Rattle.stm_model.specs.Heap.{put}
+use Rattle.stm_model.specs.Heap.{put, writes_to}
+use Rattle.stm_model.proofs.HeapLemmas.{writes_to-lookup}
 use Rattle.write_buffer.specs.Buffer.{AreApart}
 
 pub put_new : (writes : List (ℕ × ℕ)) (address value : ℕ) → All (λ write. write.0 ≢ address) writes → put writes address value ≡ writes ++ (address, value) ∷ []
@@ -23,6 +25,24 @@ lookup_none (write ∷ writes) address none = elim (eqb_tells address write.0) [
   | inl same ↦ absurd (All-head (λ w. w.0 ≢ address) write writes none (sym same.1))
   | inr other ↦ rw other.0 (lookup_none writes address (All-tail (λ w. w.0 ≢ address) write writes none))
 ]
+
+written_here : (writes : List (ℕ × ℕ)) (index address : ℕ) → index < length writes → HoldsAt (λ write. write.0 ≡ address) writes index → writes_to writes address ≡ true
+written_here [] index address within here = absurd (omega arith)
+written_here (write ∷ writes) zero address within here =
+    let key : write.0 ≡ address = here write in
+    let same : nat_eq address write.0 ≡ true = grind (arith, nat_tests) in
+    rw same refl
+written_here (write ∷ writes) (suc index) address within here = elim (eqb_tells address write.0) [
+  | inl same ↦ rw same.0 refl
+  | inr other ↦ rw other.0 (written_here writes index address (omega arith) here)
+]
+
+-- whether a cell is written, by the search for its place
+pub written_by_place : (writes : List (ℕ × ℕ)) (address : ℕ) (place : Option ℕ)
+    → MatchOption place (All (λ write. write.0 ≢ address) writes) (λ index. (index < length writes) × HoldsAt (λ write. write.0 ≡ address) writes index)
+    → writes_to writes address ≡ is_some place
+written_by_place writes address None none = writes_to-lookup writes address ∙ ap is_some (lookup_none writes address none)
+written_by_place writes address (Some index) here = written_here writes index address here.0 here.1
 
 other_key : (first : ℕ) (writes : List (ℕ × ℕ)) (index address former : ℕ) → AllByRecursion (λ key. nat_eq first key ≡ false) (keys_of writes)
     → slice_get writes index ≡ Some (address, former) → nat_eq address first ≡ false

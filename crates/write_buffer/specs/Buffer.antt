@@ -4,11 +4,12 @@ use Rattle.std.specs.List.{IsDistinct}
 use Rattle.std.specs.Map.{keys_of}
 use Rattle.stm_model.specs.declared.marks.WriteMark.{WriteMark}
 
--- the writes in the order in which their cells came, the values that were replaced, the oldest first, each with the index of its write, and how many puts more need no memory
+-- the writes in the order in which their cells came, the values that were replaced, the oldest first, each with the index of its write, and the room: how many first writes and how many rewrites more need no memory. A rewrite is a put of a cell that is written.
 pub record Buffer : Type 0 where
   pub writes : List (ℕ × ℕ)
   pub replaced : List (ℕ × ℕ)
   pub spare : ℕ
+  pub spare_rewrites : ℕ
 
 -- No cell is written twice.
 abbrev pub AreApart : List (ℕ × ℕ) → Type 0

@@ -1,4 +1,5 @@
-//! Each call once, undo over levels, and many writes.
+//! Each call once, undo over levels, room for first writes, and many writes.
+ghost use Rattle.std.specs.Prelude.{◌<◌, ◌≤◌, IsOk};
 ghost use Rattle.stm_model.specs.declared.marks.WriteMark.{WriteMark};
 ghost use Rattle.write_buffer.specs.Buffer.{IsMark};
 
@@ -59,6 +60,35 @@ fn levels_are_undone_one_by_one(rt: HostRuntime) -> Result<(), Fail> {
     );
     buffer.undo(outer);
     assert_eq!(rt; buffer.len(), 0);
+    Ok(())
+}
+
+// Writes a cell if it isn't written yet. It tells whether it did.
+fn write_once(buffer: &mut WriteBuffer, addr: Addr, value: u64) -> Result<bool, Memory>
+    ensures succeeds { 0 < buffer.old.spare → IsOk result }
+    ensures rewrites { buffer.old.spare_rewrites ≤ buffer.new.spare_rewrites }
+{
+    if buffer.find(addr).is_some() {
+        return Ok(false);
+    }
+    buffer.put(addr, value)?;
+    Ok(true)
+}
+
+#[test]
+fn rewrites_come_between_first_writes(rt: HostRuntime) -> Result<(), Fail> {
+    let mut buffer = WriteBuffer::new(rt.alloc());
+    buffer.reserve_first_writes(2)?;
+    assert!(rt; write_once(&mut buffer, Addr(3), 1)?);
+    for value in 2..100 {
+        buffer.put(Addr(3), value)?;
+        assert!(rt; !write_once(&mut buffer, Addr(3), 0)?);
+    }
+    assert!(rt; write_once(&mut buffer, Addr(4), 1)?);
+    assert_eq!(rt;
+        writes_of(rt.alloc(), &buffer)?.as_slice(),
+        [(3, 99), (4, 1)].as_slice()
+    );
     Ok(())
 }
 

@@ -15,20 +15,20 @@ returns-in_err-push-in-Some-clause-marks c =
 pub invariant_of-self-in-Some : goal.invariant_of-self-in-Some
 invariant_of-self-in-Some c =
     rw (← put_again c.self.inside.writes.items c.in-Some.index c.args.addr.0 c.args.value c.index.result.now.1 c.self.invariant
-    (here_at _ _ _ _ _ c.as_slice.ensures.value c.in-Some.ensures c.index.ensures))
+    (here_at _ _ _ _ _ c.as_slice.ensures.value c.in-Some.ensures.place c.index.ensures))
     (IsDistinct-put c.self.inside.writes.items c.args.addr.0 c.args.value c.self.invariant)
 
 pub returns-in_ok-push-in-Some-clause-ok : goal.returns-in_ok-push-in-Some-clause-ok
 returns-in_ok-push-in-Some-clause-ok c =
     sym (put_again c.self.inside.writes.items c.in-Some.index c.args.addr.0 c.args.value c.index.result.now.1 c.self.invariant
-    (here_at _ _ _ _ _ c.as_slice.ensures.value c.in-Some.ensures c.index.ensures))
+    (here_at _ _ _ _ _ c.as_slice.ensures.value c.in-Some.ensures.place c.index.ensures))
     ∙ ap (λ (b : Buffer). put b.writes c.args.addr.0 c.args.value) c.self.view_is
 
 pub returns-in_ok-push-in-Some-clause-marks : goal.returns-in_ok-push-in-Some-clause-marks
 returns-in_ok-push-in-Some-clause-marks c =
     rw (← c.self.view_is)
     (Keeps_again _ _ c.in-Some.index c.args.addr.0 c.args.value c.index.result.now.1
-    (here_at _ _ _ _ _ c.as_slice.ensures.value c.in-Some.ensures c.index.ensures) refl c.in_ok-push-in-Some.ensures.items)
+    (here_at _ _ _ _ _ c.as_slice.ensures.value c.in-Some.ensures.place c.index.ensures) refl c.in_ok-push-in-Some.ensures.items)
 
 -- ---- a cell that is not
 
@@ -38,13 +38,13 @@ returns-in_err-push-in-None-clause-marks c =
 
 pub invariant_of-self-in-Continue-branch-2 : goal.invariant_of-self-in-Continue-branch-2
 invariant_of-self-in-Continue-branch-2 c =
-    rw (c.in_ok-push-in-None.ensures.items, ← put_new c.self.inside.writes.items c.args.addr.0 c.args.value (rw c.as_slice.ensures.value at c.in-None.ensures))
+    rw (c.in_ok-push-in-None.ensures.items, ← put_new c.self.inside.writes.items c.args.addr.0 c.args.value (rw c.as_slice.ensures.value at c.in-None.ensures.place))
     (IsDistinct-put c.self.inside.writes.items c.args.addr.0 c.args.value c.self.invariant)
 
 pub returns-in_ok-push-in-None-clause-ok : goal.returns-in_ok-push-in-None-clause-ok
 returns-in_ok-push-in-None-clause-ok c =
     c.in_ok-push-in-None.ensures.items
-    ∙ sym (put_new c.self.inside.writes.items c.args.addr.0 c.args.value (rw c.as_slice.ensures.value at c.in-None.ensures))
+    ∙ sym (put_new c.self.inside.writes.items c.args.addr.0 c.args.value (rw c.as_slice.ensures.value at c.in-None.ensures.place))
     ∙ ap (λ (b : Buffer). put b.writes c.args.addr.0 c.args.value) c.self.view_is
 
 pub returns-in_ok-push-in-None-clause-marks : goal.returns-in_ok-push-in-None-clause-marks
