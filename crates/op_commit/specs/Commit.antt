@@ -1,10 +1,12 @@
 -- The commit of what an attempt has written.
-use Rattle.std.specs.Prelude.{◌≡◌, ◌≢◌, IsFalse, ℕ, ◌+◌, ◌-◌, ◌*◌, ◌<◌, ◌≤◌, List, ◌++◌, length, drop, Option, Some, None, unwrap_or}
+use Rattle.std.specs.Prelude.{◌≡◌, ◌≢◌, IsFalse, ℕ, ◌+◌, ◌-◌, ◌*◌, ◌<◌, ◌≤◌, ◌⊎◌, List, ◌++◌, length, drop, Option, Some, None, unwrap_or}
 use Rattle.meta_word.specs.Meta.{still_has}
+use Rattle.meta_word.specs.Status.{status_of}
 use Rattle.meta_word.specs.declared.meta.TheConstants.{MAX_VERSION}
 use Rattle.meta_word.specs.declared.status.Phase.{Phase}
-use Rattle.meta_word.specs.declared.status.Phase.TheVariants.{Idle, Preparing}
+use Rattle.meta_word.specs.declared.status.Phase.TheVariants.{Active, Doomed as IsDoomed, Idle, Preparing}
 use Rattle.meta_word.specs.declared.status.TheConstants.{MAX_SERIAL}
+use Rattle.meta_word.specs.declared.status.TxnStatus.{TxnStatus}
 use Rattle.op_commit.specs.declared.commit.CommitEnd.{CommitEnd}
 use Rattle.op_commit.specs.declared.commit.CommitEnd.TheVariants.{Bad, Decided, Prepared, Stamp}
 use Rattle.op_commit.specs.declared.commit.CommitOp.{CommitOp}
@@ -16,9 +18,11 @@ use Rattle.stm_model.specs.declared.cause.Cause.{Cause}
 use Rattle.stm_model.specs.declared.cause.Cause.TheVariants.{ClockEnd, ClockMoved, Doomed, Stale}
 use Rattle.stm_model.specs.declared.ending.Ending.TheVariants.{Committed}
 use Rattle.stm_model.specs.declared.note.Note.{Note}
+use Rattle.stm_model.specs.declared.settings.Settings.{Settings}
 use Rattle.stm_model.specs.Accesses.{active}
 use Rattle.stm_model.specs.After.{same_status, at, check_on, mark_on, release_on, rolled, run_all, store_on}
 use Rattle.stm_model.specs.Attempt.{Attempt, Close, Decide, Due, Ended, Prepare, Sample}
+use Rattle.stm_model.specs.Evidence.{Evidence}
 use Rattle.stm_model.specs.Handlers.{after_commit, committing as runs_at_decision, preparing as runs_before}
 
 -- the notes that a commit goes along: the buffered cells, and then what was read
@@ -153,3 +157,21 @@ FailureShows op _ = ⊥
 abbrev pub PlaceShows : CommitOp → CommitPlace → Type 0
 PlaceShows op (AtEnd (Bad cause prefix)) = FailureShows op cause
 PlaceShows op place = Unit {0}
+
+-- ---- what a failed commit shows in a safe world
+
+-- The status of the caller's own attempt, which hasn't begun to prepare.
+pub record IsOfOwnAttempt (serial : ℕ) (found : TxnStatus) : Type 0 where
+  pub number : found.serial ≡ serial
+  pub phase : (found.phase ≡ Active) ⊎ (found.phase ≡ IsDoomed)
+
+-- The access finds a word of a safe world: its own status, or a clock that has only risen. Other words may be any.
+abbrev pub IsOfSafeWorld : CommitPlace → (serial answer : ℕ) → Type 0
+IsOfSafeWorld AtPrepare serial answer = IsOfOwnAttempt serial (status_of answer)
+IsOfSafeWorld (AtDecide lost clock) serial answer = clock ≤ answer
+IsOfSafeWorld place serial answer = Unit {0}
+
+-- Where the commit stands at a bad end, the words of its cause are its evidence, for all settings with its limit of the clock.
+abbrev pub PlaceHasEvidence : CommitOp → CommitPlace → Type 0
+PlaceHasEvidence op (AtEnd (Bad cause prefix)) = (settings : Settings) → settings.clock ≡ op.limit → Evidence op.own settings cause
+PlaceHasEvidence op place = Unit {0}

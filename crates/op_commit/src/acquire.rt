@@ -1,16 +1,19 @@
 //! The first write of a cell: a look at its metadata and an exchange that makes the caller its owner.
 //! Where another owns the cell, that one may be doomed, once. It is made anew as often as the policy
 //! grants looks.
-ghost use Rattle.std.specs.Prelude.{◌≡◌, ◌<◌, ◌≤◌, ◌+◌, ◌*◌, ◌^◌, [], ℕ, false, IfSome, IsNone, IsSome, None, Some};
-ghost use Rattle.meta_word.specs.Meta.{MetaFits, meta_word};
+ghost use Rattle.std.specs.Prelude.{◌≡◌, ◌<◌, ◌≤◌, ◌+◌, ◌*◌, ◌^◌, [], ℕ, false, IfSome, IsNone, IsSome, IsTrue, None, Some};
+ghost use Rattle.meta_word.specs.Meta.{MetaFits, meta_word, owned_by_another};
+ghost use Rattle.meta_word.specs.Policy.{looks};
 ghost use Rattle.meta_word.specs.Status.{StatusFits};
 ghost use Rattle.meta_word.specs.declared.meta.Meta.{Meta};
 ghost use Rattle.meta_word.specs.declared.meta.TheConstants.{MAX_OWNER};
 ghost use Rattle.stm_model.specs.declared.access.Access.TheVariants.{Exchange};
 ghost use Rattle.stm_model.specs.Accesses.{meta_of_cell, next_access, owned};
-ghost use Rattle.stm_model.specs.After.{acquired, after_word, at, looks, note_of, owner_seen, owner_seen_again, owning, same_but_pending, take_again, write_refused};
+ghost use Rattle.stm_model.specs.After.{acquired, after_word, at, note_of, owner_seen, owner_seen_again, owning, same_but_pending, take_again, write_refused};
 ghost use Rattle.stm_model.specs.Attempt.{Acquire, Attempt};
-ghost use Rattle.op_commit.specs.Acquire.{EndShows, IsAcquiring, IsWithin, RefusalShows, accesses_left, acquiring, end_of_acquire, met, rounds_left, version_in};
+ghost use Rattle.stm_model.specs.Evidence.{IsEvident};
+ghost use Rattle.stm_model.specs.Safe.{IsFree};
+ghost use Rattle.op_commit.specs.Acquire.{EndHasEvidence, EndShows, IsAcquiring, IsOfSafeCell, IsOfSafeWorld, IsOwnedOrMoved, IsWithin, KeepsPending, KnowsSafe, RefusalShows, accesses_left, acquiring, end_of_acquire, met, rounds_left, version_in};
 ghost use Rattle.op_commit.specs.declared.acquire.AcquireEnd.TheVariants.{Owned};
 ghost use Rattle.op_commit.specs.declared.acquire.AcquirePlace.TheVariants.{Exchange as AtExchange, FirstLook as AtFirstLook, SeeAgain as AtSeeAgain, SeeOwner as AtSeeOwner};
 
@@ -73,8 +76,11 @@ impl AcquireOp {
         requires own { own ≤ MAX_OWNER }
         requires looks { looks policy + 1 < 2 ^ 16 }
         ensures begins { (t : Attempt) (value : ℕ) → acquiring result value t ≡ at t (Acquire addr.0 value (looks policy) false) }
+        ensures cell { result.addr ≡ addr }
+        ensures going { end_of_acquire result ≡ None }
         ensures for_attempt { (t : Attempt) → t.own ≡ own → t.settings.policy ≡ policy → version_in (note_of t.notes addr.0) ≡ noted → IsAcquiring result t }
         ensures within { IsWithin result }
+        ensures knows { KnowsSafe result }
         ensures bound { accesses_left result ≤ (looks policy + 1) * 4 }
     {
         AcquireOp {
@@ -121,7 +127,8 @@ impl AcquireOp {
         }
     }
 
-    /// Takes the word that the access found.
+    /// Takes the word that the access found. Where all words so far are those of a safe world, the cause of
+    /// a bad end has its evidence.
     #[tactic(auto, unfolding(stm_model::specs::After::after_at, stm_model::specs::Accesses::next_at, stm_model::specs::Accesses::answer_of))]
     pub fn take<N: Notes>(&mut self, _notes: &N, answer: u64)
         requires going { IsNone (end_of_acquire self.old) }
@@ -130,8 +137,11 @@ impl AcquireOp {
             after_word (acquiring self.old value t) answer ≡ acquiring self.new value t }
         ensures owned { (meta : Meta) → end_of_acquire self.new ≡ Some (Owned meta) → (t : Attempt) (value : ℕ) → t.due ≡ [] → IsAcquiring self.old t →
             next_access (acquiring self.old value t) ≡ Some (Exchange (meta_of_cell self.old.addr.0) answer (meta_word (owned self.old.own meta))) }
+        ensures cell { self.new.addr ≡ self.old.addr }
         ensures same { (t : Attempt) → IsAcquiring self.old t → IsAcquiring self.new t }
         ensures refusal { IfSome (end_of_acquire self.new) (EndShows self.old) }
+        ensures knows { KnowsSafe self.old → IsOfSafeWorld self.old.place self.old.own answer → KnowsSafe self.new }
+        ensures evidence { KnowsSafe self.old → IsOfSafeWorld self.old.place self.old.own answer → IfSome (end_of_acquire self.new) (EndHasEvidence self.old.own) }
         ensures within { IsWithin self.new }
         ensures falls { accesses_left self.new < accesses_left self.old }
     {
@@ -152,7 +162,7 @@ impl AcquireOp {
     }
 
     // The first look of a round showed this.
-    #[tactic(auto, unfolding(stm_model::specs::After::acquiring))]
+    #[tactic(auto, unfolding(stm_model::specs::After::acquiring, stm_model::specs::Evidence::Evidence))]
     fn look(&mut self, first: Meta)
         requires place { self.old.place ≡ AtFirstLook }
         requires within { IsWithin self.old }
@@ -160,8 +170,11 @@ impl AcquireOp {
         ensures after { (t : Attempt) (value : ℕ) → IsAcquiring self.old t →
             acquired t self.old.addr.0 value (rounds_left self.old) self.old.doom_tried (note_of t.notes self.old.addr.0) first ≡ acquiring self.new value t }
         ensures not_yet { (meta : Meta) → end_of_acquire self.new ≡ Some (Owned meta) → ⊥ }
+        ensures cell { self.new.addr ≡ self.old.addr }
         ensures same { (t : Attempt) → IsAcquiring self.old t → IsAcquiring self.new t }
         ensures refusal { IfSome (end_of_acquire self.new) (EndShows self.old) }
+        ensures knows { IsOfSafeCell self.old.own first → KnowsSafe self.new }
+        ensures evidence { IsOfSafeCell self.old.own first → IfSome (end_of_acquire self.new) (EndHasEvidence self.old.own) }
         ensures within { IsWithin self.new }
         ensures falls { accesses_left self.new < accesses_left self.old }
     {
@@ -191,8 +204,11 @@ impl AcquireOp {
         ensures after { (t : Attempt) (value : ℕ) → IsAcquiring self.old t →
             met t self.old.addr.0 value (rounds_left self.old) self.old.doom_tried first ≡ acquiring self.new value t }
         ensures not_yet { (meta : Meta) → end_of_acquire self.new ≡ Some (Owned meta) → ⊥ }
+        ensures cell { self.new.addr ≡ self.old.addr }
         ensures same { (t : Attempt) → IsAcquiring self.old t → IsAcquiring self.new t }
         ensures refusal { IfSome (end_of_acquire self.new) (EndShows self.old) }
+        ensures knows { IsTrue (owned_by_another self.old.own first) → KnowsSafe self.new }
+        ensures evidence { IsTrue (owned_by_another self.old.own first) → IfSome (end_of_acquire self.new) (EndHasEvidence self.old.own) }
         ensures within { IsWithin self.new }
         ensures falls { accesses_left self.new < accesses_left self.old }
     {
@@ -221,8 +237,11 @@ impl AcquireOp {
             owning t self.old.addr.0 value (rounds_left self.old) self.old.doom_tried first expected again found ≡ acquiring self.new value t }
         ensures owned { (meta : Meta) → end_of_acquire self.new ≡ Some (Owned meta) → meta ≡ found }
         ensures won { (meta : Meta) → end_of_acquire self.new ≡ Some (Owned meta) → found ≡ expected }
+        ensures cell { self.new.addr ≡ self.old.addr }
         ensures same { (t : Attempt) → IsAcquiring self.old t → IsAcquiring self.new t }
         ensures refusal { IfSome (end_of_acquire self.new) (EndShows self.old) }
+        ensures knows { IsFree first expected again → IsOfSafeCell self.old.own found → KeepsPending expected found → KnowsSafe self.new }
+        ensures evidence { IsFree first expected again → IsOfSafeCell self.old.own found → KeepsPending expected found → IfSome (end_of_acquire self.new) (EndHasEvidence self.old.own) }
         ensures within { IsWithin self.new }
         ensures falls { accesses_left self.new < accesses_left self.old }
     {
@@ -249,8 +268,11 @@ impl AcquireOp {
         ensures after { (t : Attempt) (value : ℕ) → IsAcquiring self.old t →
             owner_seen t self.old.addr.0 value (rounds_left self.old) first status ≡ acquiring self.new value t }
         ensures not_yet { (meta : Meta) → end_of_acquire self.new ≡ Some (Owned meta) → ⊥ }
+        ensures cell { self.new.addr ≡ self.old.addr }
         ensures same { (t : Attempt) → IsAcquiring self.old t → IsAcquiring self.new t }
         ensures refusal { IfSome (end_of_acquire self.new) (EndShows self.old) }
+        ensures knows { IsTrue (owned_by_another self.old.own first) → KnowsSafe self.new }
+        ensures evidence { IsTrue (owned_by_another self.old.own first) → IfSome (end_of_acquire self.new) (EndHasEvidence self.old.own) }
         ensures within { IsWithin self.new }
         ensures falls { accesses_left self.new < accesses_left self.old }
     {
@@ -269,8 +291,11 @@ impl AcquireOp {
         ensures after { (t : Attempt) (value : ℕ) → IsAcquiring self.old t →
             owner_seen_again t self.old.addr.0 value (rounds_left self.old) first status second ≡ acquiring self.new value t }
         ensures not_yet { (meta : Meta) → end_of_acquire self.new ≡ Some (Owned meta) → ⊥ }
+        ensures cell { self.new.addr ≡ self.old.addr }
         ensures same { (t : Attempt) → IsAcquiring self.old t → IsAcquiring self.new t }
         ensures refusal { IfSome (end_of_acquire self.new) (EndShows self.old) }
+        ensures knows { IsTrue (owned_by_another self.old.own first) → IsOfSafeCell self.old.own second → KnowsSafe self.new }
+        ensures evidence { IsTrue (owned_by_another self.old.own first) → IsOfSafeCell self.old.own second → IfSome (end_of_acquire self.new) (EndHasEvidence self.old.own) }
         ensures within { IsWithin self.new }
         ensures falls { accesses_left self.new < accesses_left self.old }
     {
@@ -291,8 +316,11 @@ impl AcquireOp {
         ensures after { (t : Attempt) (value : ℕ) → IsAcquiring self.old t →
             take_again t self.old.addr.0 value (rounds_left self.old) self.old.doom_tried first latest ≡ acquiring self.new value t }
         ensures not_yet { (meta : Meta) → end_of_acquire self.new ≡ Some (Owned meta) → ⊥ }
+        ensures cell { self.new.addr ≡ self.old.addr }
         ensures same { (t : Attempt) → IsAcquiring self.old t → IsAcquiring self.new t }
         ensures refusal { IfSome (end_of_acquire self.new) (EndShows self.old) }
+        ensures knows { KnowsSafe self.new }
+        ensures evidence { IsOwnedOrMoved self.old.own first latest → IfSome (end_of_acquire self.new) (EndHasEvidence self.old.own) }
         ensures within { IsWithin self.new }
         ensures falls { accesses_left self.new ≤ 4 * rounds_left self.old }
     {
@@ -306,9 +334,11 @@ impl AcquireOp {
     }
 
     // Why the first write is refused, the last round having ended with this word.
+    #[tactic(auto, unfolding(stm_model::specs::Evidence::Evidence))]
     fn refusal(&self, first: Meta, latest: Meta) -> Cause
         ensures is { result ≡ write_refused self.now.own self.now.addr.0 first latest }
         ensures shows { RefusalShows self.now result }
+        ensures evidence { IsOwnedOrMoved self.now.own first latest → IsEvident self.now.own result }
     {
         if latest.is_owned_by_another(self.own) {
             Cause::WriteConflict {

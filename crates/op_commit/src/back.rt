@@ -50,6 +50,8 @@ impl BackOp {
         requires { serial ≤ MAX_SERIAL }
         ensures undoes { whole ≡ false → (t : Attempt) → backing result t ≡ give_back_on t (take first t.now.writes) (drop first t.now.writes) }
         ensures rolls { whole ≡ true → (t : Attempt) → backing result t ≡ roll_on t (drop first t.now.writes) }
+        ensures going { end_of_back result ≡ None }
+        ensures whole { result.whole ≡ whole }
         ensures for_attempt { (t : Attempt) → t.own ≡ own → t.serial ≡ serial → IsBacking result t }
         ensures along { (notes : List Note) → first < length notes → IsAlong result notes }
         ensures to_the_end { whole ≡ true → (notes : List Note) → first ≤ length notes → IsAlong result notes }
@@ -98,6 +100,7 @@ impl BackOp {
         ensures after { (t : Attempt) → t.due ≡ [] → IsBacking self.old t → N.notes notes.now ≡ buffered t.now.writes →
             after_word (backing self.old t) answer ≡ backing self.new (record t { due = due_by self.new t }) }
         ensures same { (t : Attempt) → IsBacking self.old t → IsBacking self.new t }
+        ensures whole { self.new.whole ≡ self.old.whole }
         ensures falls { accesses_left self.new (length (N.notes notes.now)) < accesses_left self.old (length (N.notes notes.now)) }
     {
         let count = notes.len();

@@ -14,7 +14,7 @@ ghost use Rattle.stm_model.specs.declared.note.Note.{Note};
 ghost use Rattle.stm_model.specs.Accesses.{active, next_access, released};
 ghost use Rattle.stm_model.specs.After.{after_word, at, check_on, decided, mark_on, prepared, release_on, store_on};
 ghost use Rattle.stm_model.specs.Attempt.{Attempt, Prepare};
-ghost use Rattle.op_commit.specs.Commit.{ClockFits, IsAlong, IsCommitting, IsInPlace, IsStop, PlaceShows, accesses_left, committing, committing_at, due_at, due_by, end_at, end_of_commit, in_preparation, left_at, notes_to_commit, rounds, stamped};
+ghost use Rattle.op_commit.specs.Commit.{ClockFits, IsAlong, IsCommitting, IsInPlace, IsOfOwnAttempt, IsOfSafeWorld, IsStop, PlaceHasEvidence, PlaceShows, accesses_left, committing, committing_at, due_at, due_by, end_at, end_of_commit, in_preparation, left_at, notes_to_commit, rounds, stamped};
 ghost use Rattle.op_commit.specs.Buffered.{ring_for};
 ghost use Rattle.op_commit.specs.declared.commit.CommitEnd.TheVariants.{Bad};
 ghost use Rattle.stm_model.specs.declared.cause.Addr.{Addr};
@@ -73,6 +73,7 @@ impl CommitOp {
         requires serial { serial ≤ MAX_SERIAL }
         requires limit { limit ≤ MAX_VERSION }
         ensures begins { (t : Attempt) → committing result t ≡ at t Prepare }
+        ensures going { end_of_commit result ≡ None }
         ensures for_attempt { (t : Attempt) → t.own ≡ own → t.serial ≡ serial → t.settings.tries ≡ tries → t.settings.clock ≡ limit →
             length t.now.writes ≡ writes → IsCommitting result t }
         ensures along { (notes : List Note) → writes ≤ length notes → IsAlong result notes }
@@ -151,8 +152,9 @@ impl CommitOp {
         })
     }
 
-    /// Takes the word that the access found.
-    #[tactic(auto, unfolding(stm_model::specs::After::after_at, stm_model::specs::After::final_runs, stm_model::specs::Accesses::next_at, stm_model::specs::Accesses::answer_of))]
+    /// Takes the word that the access found. Where it is one of a safe world, the cause of a bad end has its
+    /// evidence for all settings with this limit of the clock.
+    #[tactic(auto, using(stm_model::proofs::EvidenceLemmas::is_stale), unfolding(stm_model::specs::After::after_at, stm_model::specs::After::final_runs, stm_model::specs::Accesses::next_at, stm_model::specs::Accesses::answer_of, stm_model::specs::Evidence::Evidence))]
     pub fn take<N: Notes>(&mut self, notes: &N, answer: u64)
         requires along { IsAlong self.old (N.notes notes.now) }
         requires going { IsNone (end_of_commit self.old) }
@@ -162,6 +164,7 @@ impl CommitOp {
             after_word (committing self.old t) answer ≡ committing self.new (record t { due = due_by self.new t }) }
         ensures same { (t : Attempt) → IsCommitting self.old t → IsCommitting self.new t }
         ensures failure { PlaceShows self.old self.new.place }
+        ensures evidence { IsOfSafeWorld self.old.place self.old.serial answer → PlaceHasEvidence self.old self.new.place }
         ensures falls { (reads : ℕ) → length (N.notes notes.now) ≡ self.old.writes + reads → accesses_left self.new reads < accesses_left self.old reads }
     {
         let count = notes.len();
@@ -197,9 +200,10 @@ impl CommitOp {
     }
 
     // The exchange of its status found this.
-    #[tactic(auto, unfolding(stm_model::specs::After::prepared))]
+    #[tactic(auto, unfolding(stm_model::specs::After::prepared, stm_model::specs::Evidence::Evidence))]
     fn after_prepare(&self, found: TxnStatus) -> CommitPlace
         ensures failure { PlaceShows self.now result }
+        ensures evidence { IsOfOwnAttempt self.now.serial found → PlaceHasEvidence self.now result }
         ensures stands { (t : Attempt) → t.due ≡ [] → IsCommitting self.now t →
             prepared t found ≡ committing_at result self.now.writes (record t { due = due_at result None t }) }
         ensures in_place { (count : ℕ) → IsInPlace result self.now.writes self.now.limit count }
@@ -216,6 +220,7 @@ impl CommitOp {
     fn mark_from(&self, index: usize) -> CommitPlace
         requires { index ≤ self.now.writes }
         ensures failure { PlaceShows self.now result }
+        ensures evidence { PlaceHasEvidence self.now result }
         ensures stands { (t : Attempt) → IsCommitting self.now t →
             mark_on (in_preparation t) (drop index t.now.writes) ≡ committing_at result self.now.writes t }
         ensures due { (t : Attempt) → due_at result None t ≡ [] }
@@ -231,12 +236,13 @@ impl CommitOp {
     }
 
     // Of so many notes, those before this index hold good at the clock.
-    #[tactic(auto, unfolding(stm_model::specs::After::check_on))]
+    #[tactic(auto, unfolding(stm_model::specs::After::check_on, stm_model::specs::Evidence::Evidence))]
     fn check_from(&self, lost: u16, clock: u64, index: usize, count: usize) -> CommitPlace
         requires behind { self.now.writes ≤ index }
         requires within { index ≤ count }
         requires clock { clock ≤ self.now.limit }
         ensures failure { PlaceShows self.now result }
+        ensures evidence { PlaceHasEvidence self.now result }
         ensures stands { (t : Attempt) → IsCommitting self.now t → count ≡ self.now.writes + length t.notes →
             check_on (in_preparation t) lost clock (drop (index - self.now.writes) t.notes) ≡ committing_at result self.now.writes t }
         ensures due { (t : Attempt) → due_at result None t ≡ [] }
@@ -257,10 +263,11 @@ impl CommitOp {
     }
 
     // The exchange of the clock found this.
-    #[tactic(auto, unfolding(stm_model::specs::After::decided))]
+    #[tactic(auto, unfolding(stm_model::specs::After::decided, stm_model::specs::Evidence::Evidence))]
     fn after_decide(&self, lost: u16, clock: u64, found: u64) -> CommitPlace
         requires { clock < self.now.limit }
         ensures failure { PlaceShows self.now result }
+        ensures evidence { clock ≤ found → PlaceHasEvidence self.now result }
         ensures stands { (t : Attempt) → t.due ≡ [] → IsCommitting self.now t →
             decided (in_preparation t) lost clock found ≡ committing_at result self.now.writes (record t { due = due_at result None t }) }
         ensures in_place { (count : ℕ) → IsInPlace result self.now.writes self.now.limit count }
@@ -282,6 +289,7 @@ impl CommitOp {
     fn store_from(&self, stamp: u64, index: usize) -> CommitPlace
         requires { index ≤ self.now.writes }
         ensures failure { PlaceShows self.now result }
+        ensures evidence { PlaceHasEvidence self.now result }
         ensures stands { (t : Attempt) → IsCommitting self.now t →
             store_on (stamped t stamp) (drop index t.now.writes) ≡ committing_at result self.now.writes t }
         ensures due { (t : Attempt) → due_at result None t ≡ [] }
@@ -300,6 +308,7 @@ impl CommitOp {
     fn release_from(&self, stamp: u64, index: usize) -> CommitPlace
         requires { index ≤ self.now.writes }
         ensures failure { PlaceShows self.now result }
+        ensures evidence { PlaceHasEvidence self.now result }
         ensures stands { (t : Attempt) → IsCommitting self.now t →
             release_on (stamped t stamp) (drop index t.now.writes) ≡ committing_at result self.now.writes t }
         ensures due { (t : Attempt) (rung : Option Addr) → due_at result rung t ≡ ring_for rung }
