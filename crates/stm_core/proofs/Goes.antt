@@ -1,0 +1,38 @@
+-- An operation that goes on makes an access next.
+use Rattle.std.proofs.Common.{◌≡◌, false, IfSome, IsSome, Option, Some, None, [], refl, sym, ap, ◌∙◌, subst}
+use Rattle.op_commit.specs.Buffered.{ring_for}
+use Rattle.stm_core.proofs.Stands.{rests_at, stands}
+use Rattle.stm_core.specs.Machine.{after_due, made, named, next_of, standing}
+use Rattle.stm_core.specs.Running.{HoldsAt, base, standing_so}
+use Rattle.stm_core.specs.declared.next.Next.{Next}
+use Rattle.stm_core.specs.declared.running.Running.{Running}
+use Rattle.stm_core.specs.declared.running.State.{State}
+use Rattle.stm_model.specs.declared.access.Access.{Access}
+use Rattle.stm_model.specs.Accesses.{Act, next_access, next_at, packed, unless_due}
+use Rattle.stm_model.specs.Attempt.{Attempt, Ended, Late, Ready, Stage, Stopped}
+
+stands_by_act : (t : Attempt) (stage : Stage) → IsSome (next_at t stage) → standing t stage ≡ made (packed (next_at t stage))
+unfolding standing next_at
+stands_by_act t (Ready told) acts = absurd (cc acts)
+stands_by_act t (Late token) acts = absurd (cc acts)
+stands_by_act t (Stopped cause) acts = absurd (cc acts)
+stands_by_act t Ended acts = absurd (cc acts)
+stands_by_act t _ acts = refl
+
+from_act : (act : Option Act) (access : Option Access) (result : Next) → IsSome act → access ≡ packed act → IfSome access (λ a. result ≡ named a) → made (packed act) ≡ Some result
+from_act None access result some same is = absurd (cc some)
+from_act (Some act) access result some same is = ap Some (sym (subst (λ x. IfSome x (λ a. result ≡ named a)) same is))
+
+-- Where nothing is due, an attempt that makes an access makes it next, by its name.
+makes : (t : Attempt) (access : Option Access) (result : Next) → IsSome (next_at t t.stage) → t.due ≡ [] → access ≡ next_access t → IfSome access (λ a. result ≡ named a) → next_of t ≡ Some result
+unfolding after_due
+makes t access result acts nothing same is =
+    ap (λ d. after_due d (standing t t.stage)) nothing ∙ stands_by_act t t.stage acts
+    ∙ from_act (next_at t t.stage) access result acts (same ∙ ap (λ d. packed (unless_due d (next_at t t.stage))) nothing) is
+
+-- So it does wherever it stands, unless it rests.
+pub goes : (r : Running) (state : State) (access : Option Access) (result : Next) → HoldsAt r state → rests_at state ≡ false → r.due ≡ None →
+    access ≡ next_access (standing_so (base r) state) → IfSome access (λ a. result ≡ named a) → next_of (standing_so (base r) state) ≡ Some result
+goes r state access result holds going nothing =
+    let here = stands r (base r) state holds in
+    makes (standing_so (base r) state) access result (here.acts going) (here.same.due ∙ ap ring_for nothing)

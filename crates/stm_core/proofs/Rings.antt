@@ -1,0 +1,59 @@
+-- A ring is done: nothing else changes.
+use Rattle.std.proofs.Common.{◌≡◌, ◌<◌, [], ◌∷◌, ◌++◌, length, Some, None, sym, ap, ◌∙◌, arith}
+use Rattle.op_commit.specs.Buffered.{ring_for}
+use Rattle.stm_core.proofs.Shown.{shown_alike}
+use Rattle.stm_core.proofs.Stands.{stands, with_rings}
+use Rattle.stm_core.specs.Rung.{cells_in}
+use Rattle.stm_core.specs.Running.{HoldsAt, IsSound, base, shown}
+use Rattle.stm_core.specs.declared.rung.Rung.{Rung}
+use Rattle.stm_core.specs.declared.running.Running.{Running}
+use Rattle.stm_core.specs.declared.running.State.{State}
+use Rattle.stm_core.specs.declared.running.State.TheVariants.{Back, Commit, Extend, Read, Write}
+use Rattle.stm_model.specs.declared.cause.Addr.{Addr}
+use Rattle.stm_model.specs.Moves.{Does, did_first, moved}
+
+-- the same with nothing due, and these cells rung for
+abbrev rung_in : Running → Rung → Running
+rung_in r cells = record r { due = None; rung = cells }
+
+-- The ring that was due is done.
+pub rings_one : (r : Running) (addr : Addr) (cells : Rung) → IsSound r → r.due ≡ Some addr → cells_in cells ≡ cells_in r.rung ++ addr.0 ∷ [] → shown (rung_in r cells) ≡ moved (shown r) Does
+unfolding moved
+rings_one r addr cells sound due added =
+    let t = shown r in let alike = shown_alike r sound in
+    let first : t.due ≡ ring_for (Some addr) = alike.due ∙ ap ring_for due in
+    let before : t.rings ≡ cells_in r.rung = alike.rings in
+    (stands r (base r) r.state sound.holds).also [] (cells_in cells)
+    ∙ ap (λ list. with_rings t [] list) (added ∙ ap (λ list. list ++ addr.0 ∷ []) (sym before))
+    ∙ sym (ap (λ dues. did_first t dues) first)
+
+holds_so : (r : Running) (cells : Rung) (state : State) → HoldsAt r state → HoldsAt (rung_in r cells) state
+unfolding HoldsAt
+holds_so r cells (Read op) holds = record { made_for = record { own = holds.made_for.own; prefix = holds.made_for.prefix }; going = holds.going; room = holds.room }
+holds_so r cells (Extend reading first op) holds = record {
+  made_for = record { own = holds.made_for.own };
+  going = holds.going;
+  along = holds.along;
+  own = holds.own;
+  waits = holds.waits;
+  room = holds.room;
+}
+holds_so r cells (Write op value) holds = record {
+  made_for = record { own = holds.made_for.own; policy = holds.made_for.policy; noted = holds.made_for.noted };
+  going = holds.going;
+  within = holds.within;
+  unwritten = holds.unwritten;
+  room = holds.room;
+}
+holds_so r cells (Commit op) holds = record { made_for = record { own = holds.made_for.own; serial = holds.made_for.serial; tries = holds.made_for.tries; limit = holds.made_for.limit; writes = holds.made_for.writes }; going = holds.going; along = holds.along }
+holds_so r cells (Back op ending prepared) holds = record { made_for = record { own = holds.made_for.own; serial = holds.made_for.serial }; going = holds.going; along = holds.along; whole = holds.whole }
+holds_so r cells _ holds = holds
+
+pub holds_then : (r : Running) (cells : Rung) → IsSound r → IsSound (rung_in r cells)
+holds_then r cells sound = record { fits = sound.fits; holds = holds_so r cells r.state sound.holds }
+
+-- Something is due, so there is a cell to ring for.
+pub rings_some : (r : Running) → IsSound r → 0 < length (shown r).due → r.due ≡ None → ⊥
+rings_some r sound some none =
+    let nothing : (shown r).due ≡ [] = (shown_alike r sound).due ∙ ap ring_for none in
+    omega (arith, some, ap length nothing)

@@ -1,0 +1,54 @@
+-- More room changes nothing else.
+use Rattle.std.proofs.Common.{◌≡◌, ℕ, ◌≤◌, List, sym, subst, ap, ◌∙◌, arith}
+use Rattle.read_set.specs.Reads.{Reads}
+use Rattle.stm_core.specs.Running.{HoldsAt, IsSound, left_in, shown}
+use Rattle.stm_core.specs.declared.running.Running.{Running}
+use Rattle.stm_core.specs.declared.running.State.{State}
+use Rattle.stm_core.specs.declared.running.State.TheVariants.{Announce, Back, Begin, Commit, Ended, Extend, Read, Ready, Stopped, Write}
+use Rattle.write_buffer.specs.Buffer.{Buffer}
+
+-- with this room, the rest being the same
+abbrev with_room : Running → (reads : Reads) → (writes : Buffer) → Running
+with_room r reads writes = record r { footprint = record { reads = reads; writes = writes } }
+
+module _ (r : Running) (spare cells rewrites : ℕ) (replaced : List (ℕ × ℕ)) (more : r.footprint.reads.spare ≤ spare) (more_cells : r.footprint.writes.spare ≤ cells) where
+  abbrev roomier : Running
+  roomier = with_room r (record { notes = r.footprint.reads.notes; spare = spare }) (record { writes = r.footprint.writes.writes; replaced = replaced; spare = cells; spare_rewrites = rewrites })
+
+  holds_still : (state : State) → HoldsAt r state → HoldsAt roomier state
+  unfolding HoldsAt
+  holds_still Announce holds = holds
+  holds_still Begin holds = holds
+  holds_still (Ready told) holds = holds
+  holds_still (Stopped cause) holds = holds
+  holds_still (Read op) holds = record { made_for = holds.made_for; going = holds.going; room = record { unnoted = holds.room.unnoted; room = omega (arith, more, holds.room.room) } }
+  holds_still (Extend reading first op) holds = record {
+    made_for = holds.made_for;
+    going = holds.going;
+    along = holds.along;
+    own = holds.own;
+    waits = holds.waits;
+    room = record { unnoted = holds.room.unnoted; room = omega (arith, more, holds.room.room) };
+  }
+  holds_still (Write op value) holds = record { made_for = holds.made_for; going = holds.going; within = holds.within; unwritten = holds.unwritten; room = omega (arith, more_cells, holds.room) }
+  holds_still (Commit op) holds = record { made_for = holds.made_for; going = holds.going; along = holds.along }
+  holds_still (Back op ending prepared) holds = record { made_for = holds.made_for; going = holds.going; along = holds.along; whole = holds.whole }
+  holds_still (Ended ending) holds = holds
+
+-- With the same notes and writes and no less room it is as sound, and shows the same.
+pub sound_with_room : (r : Running) (reads : Reads) (writes : Buffer) → reads.notes ≡ r.footprint.reads.notes → writes.writes ≡ r.footprint.writes.writes →
+    r.footprint.reads.spare ≤ reads.spare → r.footprint.writes.spare ≤ writes.spare → IsSound r → IsSound (with_room r reads writes)
+sound_with_room r reads writes same_notes same_writes more more_cells sound =
+    subst (λ notes. IsSound (with_room r (record { notes = notes; spare = reads.spare }) writes)) (sym same_notes)
+    (subst (λ cells. IsSound (with_room r (record { notes = r.footprint.reads.notes; spare = reads.spare }) (record { writes = cells; replaced = writes.replaced; spare = writes.spare; spare_rewrites = writes.spare_rewrites }))) (sym same_writes)
+    (record { fits = sound.fits; holds = holds_still r reads.spare writes.spare writes.spare_rewrites writes.replaced more more_cells r.state sound.holds }))
+
+pub shown_with_room : (r : Running) (reads : Reads) (writes : Buffer) → reads.notes ≡ r.footprint.reads.notes → writes.writes ≡ r.footprint.writes.writes → shown (with_room r reads writes) ≡ shown r
+shown_with_room r reads writes same_notes same_writes =
+    ap (λ notes. shown (with_room r (record { notes = notes; spare = reads.spare }) writes)) same_notes
+    ∙ ap (λ cells. shown (with_room r (record { notes = r.footprint.reads.notes; spare = reads.spare }) (record { writes = cells; replaced = writes.replaced; spare = writes.spare; spare_rewrites = writes.spare_rewrites }))) same_writes
+
+pub left_with_room : (r : Running) (reads : Reads) (writes : Buffer) → reads.notes ≡ r.footprint.reads.notes → writes.writes ≡ r.footprint.writes.writes → left_in (with_room r reads writes) ≡ left_in r
+left_with_room r reads writes same_notes same_writes =
+    ap (λ notes. left_in (with_room r (record { notes = notes; spare = reads.spare }) writes)) same_notes
+    ∙ ap (λ cells. left_in (with_room r (record { notes = r.footprint.reads.notes; spare = reads.spare }) (record { writes = cells; replaced = writes.replaced; spare = writes.spare; spare_rewrites = writes.spare_rewrites }))) same_writes

@@ -1,0 +1,16 @@
+use Rattle.std.proofs.Common.{refl}
+use Rattle.stm_core.specs.Running.{HoldsAt}
+use Rattle.stm_core.proofs.running.Running.take_write.Goals as goal
+
+pub returns-in-None-clause-sound : goal.returns-in-None-clause-sound
+unfolding HoldsAt
+returns-in-None-clause-sound c = record {
+  fits = c.requires.fits;
+  holds = record {
+    made_for = c.take.ensures.same _ c.requires.op.made_for;
+    going = rw (← c.end.ensures, c.in-None.is) refl;
+    within = c.take.ensures.within;
+    unwritten = rw c.take.ensures.cell c.requires.op.unwritten;
+    room = c.requires.op.room;
+  };
+}

@@ -1,0 +1,164 @@
+-- What an attempt as a machine is to its callers.
+use Rattle.std.specs.Prelude.{◌≡◌, ℕ, ◌+◌, ◌*◌, ◌<◌, ◌≤◌, ◌^◌, false, if◌then◌else◌, List, [], ◌∷◌, length, Option, Some, None}
+use Rattle.meta_word.specs.Policy.{looks}
+use Rattle.meta_word.specs.declared.meta.TheConstants.{MAX_VERSION}
+use Rattle.meta_word.specs.declared.status.Phase.TheVariants.{Idle}
+use Rattle.stm_core.specs.declared.next.Next.{Next}
+use Rattle.stm_core.specs.declared.next.Next.TheVariants.{Access as ToAccess, Before, Decide, Reply as ToReply, Ring as ToRing, Run as ToRun}
+use Rattle.stm_core.specs.declared.next.Reply.TheVariants.{Ended as IsOver, Ready as IsReady, Stopped as IsStopped, Value}
+use Rattle.stm_model.specs.declared.access.Access.{Access}
+use Rattle.stm_model.specs.declared.access.Access.TheVariants.{Exchange, Load}
+use Rattle.stm_model.specs.declared.access.Ask.{Ask}
+use Rattle.stm_model.specs.declared.access.Ask.TheVariants.{Abandon, Finish, Get, Set}
+use Rattle.stm_model.specs.declared.access.Word.TheVariants.{Clock}
+use Rattle.stm_model.specs.declared.ending.Ending.{Ending}
+use Rattle.stm_model.specs.declared.settings.Settings.{Settings}
+use Rattle.stm_model.specs.Accesses.{Act, LoadClock, TakeClock, addr_of, next_at, packed}
+use Rattle.stm_model.specs.Attempt.{Attempt, Due, Ended, Late, Ready, Ring, Run, Stage, Stopped, cause_at, holds, is_in_flight}
+use Rattle.stm_model.specs.Moves.{Lacks, MayLack, moved}
+
+-- the attempt, how many accesses may follow before it replies, and how many first reads and first writes that aren't under way take no memory
+pub record Machine : Type 0 where
+  pub attempt : Attempt
+  pub left : ℕ
+  pub spare_reads : ℕ
+  pub spare_writes : ℕ
+
+-- ---- what comes next
+
+-- an access, and the exchange of the clock by a name of its own
+abbrev pub named : Access → Next
+named (Exchange Clock old new) = Decide old
+named access = ToAccess access
+
+-- the access that is made comes next
+abbrev pub made : Option Access → Option Next
+made None = None
+made (Some access) = Some (named access)
+
+abbrev pub over : Option Ending → Option Next
+over None = None
+over (Some ending) = Some (ToReply (IsOver ending))
+
+-- what an attempt does where it stands: it replies, or it makes an access
+unfoldable pub standing : Attempt → Stage → Option Next
+standing t (Ready None) = Some (ToReply IsReady)
+standing t (Ready (Some value)) = Some (ToReply (Value value))
+standing t (Late token) = Some (Before token)
+standing t (Stopped cause) = Some (ToReply (IsStopped cause))
+standing t Ended = over t.ending
+standing t stage = made (packed (next_at t stage))
+
+-- What is due comes first.
+unfoldable pub after_due : List Due → Option Next → Option Next
+after_due [] next = next
+after_due (Run phase token ∷ dues) next = Some (ToRun phase token)
+after_due (Ring cell ∷ dues) next = Some (ToRing (addr_of cell))
+
+-- what an attempt does next
+abbrev pub next_of : Attempt → Option Next
+next_of t = after_due t.due (standing t t.stage)
+
+-- ---- its conditions
+
+-- Rounds of a first write and the clock have room in their types.
+pub record SettingsFit (settings : Settings) : Type 0 where
+  pub looks : looks settings.policy + 1 < 2 ^ 16
+  pub clock : settings.clock ≤ MAX_VERSION
+
+-- It takes these asks. Levels, handlers and bodies that are put off aren't built yet.
+unfoldable pub IsBuilt : Ask → Type 0
+IsBuilt (Get cell) = Unit {0}
+IsBuilt (Set cell value) = Unit {0}
+IsBuilt Finish = Unit {0}
+IsBuilt (Abandon cause) = Unit {0}
+IsBuilt ask = ⊥
+
+-- What the clock shows is within the attempt's limit.
+unfoldable pub ClockFits : Attempt → Option Act → ℕ → Type 0
+ClockFits t (Some LoadClock) answer = answer ≤ t.settings.clock
+ClockFits t (Some (TakeClock old)) answer = answer ≤ t.settings.clock
+ClockFits t act answer = Unit {0}
+
+-- ---- what it says of the calls that may follow
+
+-- It makes an access, so it may be given an answer.
+unfoldable pub MakesAccess : Next → Type 0
+MakesAccess (ToAccess access) = Unit {0}
+MakesAccess (Decide old) = Unit {0}
+MakesAccess next = ⊥
+
+-- the clock is what it finds
+unfoldable pub FindsClock : Next → Type 0
+FindsClock (ToAccess (Load Clock)) = Unit {0}
+FindsClock (Decide old) = Unit {0}
+FindsClock next = ⊥
+
+-- Something is due, so it may be told that this was done.
+unfoldable pub IsDue : Next → Type 0
+IsDue (ToRun phase token) = Unit {0}
+IsDue (ToRing addr) = Unit {0}
+IsDue next = ⊥
+
+-- It may be asked.
+unfoldable pub IsToBeAsked : Next → Type 0
+IsToBeAsked (Before token) = Unit {0}
+IsToBeAsked (ToReply IsReady) = Unit {0}
+IsToBeAsked (ToReply (Value value)) = Unit {0}
+IsToBeAsked (ToReply (IsStopped cause)) = Unit {0}
+IsToBeAsked next = ⊥
+
+-- ---- what doesn't change
+
+-- It is the same attempt, of the same caller and under the same settings.
+pub record IsSameAttempt (before after : Attempt) : Type 0 where
+  pub own : after.own ≡ before.own
+  pub serial : after.serial ≡ before.serial
+  pub settings : after.settings ≡ before.settings
+
+-- ---- what an ask makes of it
+
+-- The ask is refused for want of memory, where it wants some.
+pub record IsRefused (before : Attempt) (ask : Ask) (after : Attempt) : Type 0 where
+  pub wants : MayLack before ask
+  pub going : cause_at before.stage ≡ None
+  pub stops : after ≡ moved before (Lacks ask)
+
+-- ---- how it ends
+
+-- It is over: it owns no cell and has marked none, and its status is stored as idle.
+pub record IsAtRest (t : Attempt) (ending : Ending) : Type 0 where
+  pub stage : t.stage ≡ Ended
+  pub ends : t.ending ≡ Some ending
+  pub phase : t.phase ≡ Idle
+  pub holds_none : (cell : ℕ) → holds t cell ≡ false
+
+-- the attempt, unless it has ended
+abbrev pub in_flight : Attempt → Option Attempt
+in_flight t = if is_in_flight t then Some t else None
+
+-- ---- its room
+
+-- So many first reads and so many first writes are spare.
+pub record HasSpare (reads writes : ℕ) (m : Machine) : Type 0 where
+  pub for_reads : reads ≤ m.spare_reads
+  pub for_writes : writes ≤ m.spare_writes
+
+-- How many first reads, and how many first writes, an ask uses up at most.
+unfoldable pub reads_asked : Ask → ℕ
+reads_asked (Get cell) = 1
+reads_asked ask = 0
+
+unfoldable pub writes_asked : Ask → ℕ
+writes_asked (Set cell value) = 1
+writes_asked ask = 0
+
+-- ---- how many accesses may follow an ask
+
+-- A read looks as often as the policy grants, and each time it may extend over all notes. A first write looks as often. A commit marks, stores and releases each cell and looks at the notes as often as it tries for the clock, and may be rolled back after that. A rollback gives back each cell and stores the status.
+unfoldable pub accesses_asked : Attempt → Ask → ℕ
+accesses_asked t (Get cell) = (looks t.settings.policy + 1) * (4 + length t.notes)
+accesses_asked t (Set cell value) = (looks t.settings.policy + 1) * 4
+accesses_asked t Finish = 3 * length t.now.writes + (t.settings.tries + 1) * (length t.notes + 2) + 2 + (length t.now.writes + 1)
+accesses_asked t (Abandon cause) = length t.now.writes + 1
+accesses_asked t ask = 0

@@ -1,0 +1,165 @@
+-- How an attempt is kept, and which attempt that shows.
+use Rattle.std.specs.Prelude.{◌≡◌, ℕ, ◌+◌, ◌-◌, ◌<◌, ◌≤◌, Bool, true, if◌then◌else◌, IsFalse, IsNone, ◌++◌, length, Some, None}
+use Rattle.meta_word.specs.declared.meta.Meta.{Meta}
+use Rattle.meta_word.specs.declared.meta.TheConstants.{MAX_OWNER}
+use Rattle.meta_word.specs.declared.status.Phase.TheVariants.{Active, Idle, Preparing}
+use Rattle.meta_word.specs.declared.status.TheConstants.{MAX_SERIAL}
+use Rattle.op_commit.specs.Acquire as first_write
+use Rattle.op_commit.specs.Back as way_back
+use Rattle.op_commit.specs.Buffered.{buffered, ring_for}
+use Rattle.op_commit.specs.Commit as commit
+use Rattle.op_commit.specs.declared.acquire.AcquireOp.{AcquireOp}
+use Rattle.op_commit.specs.declared.back.BackOp.{BackOp}
+use Rattle.op_commit.specs.declared.commit.CommitOp.{CommitOp}
+use Rattle.op_read.specs.Extend as extension
+use Rattle.op_read.specs.Read as read
+use Rattle.op_read.specs.declared.extend.ExtendOp.{ExtendOp}
+use Rattle.op_read.specs.declared.read.ReadEnd.TheVariants.{NeedExtension}
+use Rattle.op_read.specs.declared.read.ReadOp.{ReadOp}
+use Rattle.read_set.specs.Reads.{Reads}
+use Rattle.stm_core.specs.Machine.{Machine, SettingsFit}
+use Rattle.stm_core.specs.Rung.{cells_in}
+use Rattle.stm_core.specs.declared.running.Running.{Running}
+use Rattle.stm_core.specs.declared.running.State.{State}
+use Rattle.stm_core.specs.declared.running.State.TheVariants.{Announce as AtAnnounce, Back, Begin as AtBegin, Commit, Ended as AtEnd, Extend, Read, Ready as AtReady, Stopped as AtStop, Write}
+use Rattle.stm_model.specs.declared.ending.Ending.{Ending}
+use Rattle.stm_model.specs.declared.settings.Settings.{Settings}
+use Rattle.stm_model.specs.After.{at, note_of}
+use Rattle.stm_model.specs.Attempt.{Announce, Attempt, Begin, Ended, Ready, Stopped, no_attempt}
+use Rattle.stm_model.specs.CellsState.{empty_book}
+use Rattle.stm_model.specs.Heap.{writes_to}
+
+-- ---- which attempt it shows
+
+-- the attempt but for where it stands
+abbrev pub base : Running → Attempt
+base r = record (no_attempt r.own r.settings) {
+  serial = r.serial;
+  phase = Active;
+  prefix = r.prefix;
+  notes = r.footprint.reads.notes;
+  now = record empty_book { writes = r.footprint.writes.writes };
+  due = ring_for r.due;
+  rings = cells_in r.rung;
+}
+
+-- the attempt on its way to this ending, after it has begun to prepare or before
+abbrev pub closing : Attempt → Ending → (prepared : Bool) → Attempt
+closing t ending prepared = record t { ending = Some ending; phase = if prepared then Preparing else Active }
+
+-- the attempt that stands so
+unfoldable pub standing_so : Attempt → State → Attempt
+standing_so t AtAnnounce = at (record t { phase = Idle }) Announce
+standing_so t AtBegin = at t Begin
+standing_so t (AtReady told) = at t (Ready told)
+standing_so t (AtStop cause) = at t (Stopped cause)
+standing_so t (Read op) = read.reading op t
+standing_so t (Extend reading first op) = extension.extending op reading.addr.0 reading.left first t
+standing_so t (Write op value) = first_write.acquiring op value t
+standing_so t (Commit op) = commit.committing op t
+standing_so t (Back op ending prepared) = way_back.backing op (closing t ending prepared)
+standing_so t (AtEnd ending) = at (record t { phase = Idle; ending = Some ending }) Ended
+
+abbrev pub shown : Running → Attempt
+shown r = standing_so (base r) r.state
+
+-- ---- how many accesses may follow before it replies
+
+unfoldable pub left_at : State → (reads writes : ℕ) → ℕ
+left_at AtAnnounce reads writes = 2
+left_at AtBegin reads writes = 1
+left_at (Read op) reads writes = read.accesses_left op reads
+left_at (Extend reading first op) reads writes = read.accesses_left reading reads - (1 + reads) + extension.looks_left op reads
+left_at (Write op value) reads writes = first_write.accesses_left op
+left_at (Commit op) reads writes = commit.accesses_left op reads + (writes + 1)
+left_at (Back op ending prepared) reads writes = way_back.accesses_left op writes
+left_at state reads writes = 0
+
+abbrev pub left_in : Running → ℕ
+left_in r = left_at r.state (length r.footprint.reads.notes) (length r.footprint.writes.writes)
+
+-- ---- its room
+
+-- a first read, and a first write, that is under way has its room
+unfoldable pub reads_under_way : State → ℕ
+reads_under_way (Read op) = 1
+reads_under_way (Extend reading first op) = 1
+reads_under_way state = 0
+
+unfoldable pub writes_under_way : State → ℕ
+writes_under_way (Write op value) = 1
+writes_under_way state = 0
+
+-- ---- what its callers see
+
+abbrev pub machine_of : Running → Machine
+machine_of r = record {
+  attempt = shown r;
+  left = left_in r;
+  spare_reads = r.footprint.reads.spare - reads_under_way r.state;
+  spare_writes = r.footprint.writes.spare - writes_under_way r.state;
+}
+
+-- ---- what holds of it
+
+-- The cell isn't noted yet, and its note needs no memory.
+pub record HasRoomFor (reads : Reads) (cell : ℕ) : Type 0 where
+  pub unnoted : note_of reads.notes cell ≡ None
+  pub room : 0 < reads.spare
+
+pub record IsReading (r : Running) (op : ReadOp) : Type 0 where
+  pub made_for : read.IsReading op (base r)
+  pub going : IsNone (read.end_of_read op)
+  pub room : HasRoomFor r.footprint.reads op.addr.0
+
+pub record IsExtending (r : Running) (reading : ReadOp) (first : Meta) (op : ExtendOp) : Type 0 where
+  pub made_for : extension.IsExtending op (base r)
+  pub going : IsNone (extension.end_of_extension op)
+  pub along : extension.IsAlong op r.footprint.reads.notes
+  pub own : reading.own ≡ r.own
+  pub waits : read.end_of_read reading ≡ Some (NeedExtension first)
+  pub room : HasRoomFor r.footprint.reads reading.addr.0
+
+pub record IsWriting (r : Running) (op : AcquireOp) : Type 0 where
+  pub made_for : first_write.IsAcquiring op (base r)
+  pub going : IsNone (first_write.end_of_acquire op)
+  pub within : first_write.IsWithin op
+  pub unwritten : IsFalse (writes_to r.footprint.writes.writes op.addr.0)
+  pub room : 0 < r.footprint.writes.spare
+
+pub record IsCommitting (r : Running) (op : CommitOp) : Type 0 where
+  pub made_for : commit.IsCommitting op (base r)
+  pub going : IsNone (commit.end_of_commit op)
+  pub along : commit.IsAlong op (buffered r.footprint.writes.writes ++ r.footprint.reads.notes)
+
+pub record IsGoingBack (r : Running) (op : BackOp) : Type 0 where
+  pub made_for : way_back.IsBacking op (base r)
+  pub going : IsNone (way_back.end_of_back op)
+  pub along : way_back.IsAlong op (buffered r.footprint.writes.writes)
+  pub whole : op.whole ≡ true
+
+-- what holds where it stands so
+unfoldable pub HoldsAt : Running → State → Type 0
+HoldsAt r (Read op) = IsReading r op
+HoldsAt r (Extend reading first op) = IsExtending r reading first op
+HoldsAt r (Write op value) = IsWriting r op
+HoldsAt r (Commit op) = IsCommitting r op
+HoldsAt r (Back op ending prepared) = IsGoingBack r op
+HoldsAt r state = Unit {0}
+
+-- Its numbers have room in their words.
+pub record NumbersFit (number serial : ℕ) (settings : Settings) : Type 0 where
+  pub own : number ≤ MAX_OWNER
+  pub serials : serial ≤ MAX_SERIAL
+  pub limits : SettingsFit settings
+
+-- It stays that of its caller, with its number and its settings.
+pub record KeepsNumbers (before after : Running) : Type 0 where
+  pub own : after.own ≡ before.own
+  pub serial : after.serial ≡ before.serial
+  pub settings : after.settings ≡ before.settings
+
+-- Its numbers fit, and what it does is made for it.
+pub record IsSound (r : Running) : Type 0 where
+  pub fits : NumbersFit r.own r.serial r.settings
+  pub holds : HoldsAt r r.state

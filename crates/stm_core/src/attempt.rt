@@ -1,0 +1,155 @@
+//! One attempt as a machine over accesses.
+ghost use Rattle.std.specs.Prelude.{◌≡◌, ◌<◌, ◌≤◌, ◌-◌, ◌^◌, ◌⊎◌, ℕ, IsSome, IsFalse, OnOk, Some, length};
+ghost use Rattle.meta_word.specs.declared.meta.TheConstants.{MAX_OWNER};
+ghost use Rattle.meta_word.specs.declared.status.TheConstants.{MAX_SERIAL};
+ghost use Rattle.stm_core.specs.Machine.{ClockFits, FindsClock, HasSpare, IsAtRest, IsBuilt, IsDue, IsRefused, IsSameAttempt, IsToBeAsked, MakesAccess, SettingsFit, accesses_asked, next_of, reads_asked, writes_asked};
+ghost use Rattle.stm_core.specs.declared.next.Next.TheVariants.{Reply as ToReply};
+ghost use Rattle.stm_core.specs.declared.next.Reply.TheVariants.{Ended as IsOver};
+ghost use Rattle.stm_model.specs.Accesses.{next};
+ghost use Rattle.stm_model.specs.After.{after_word};
+ghost use Rattle.stm_model.specs.Attempt.{Announce, Ended, Stopped, no_attempt};
+ghost use Rattle.stm_model.specs.Heap.{writes_to};
+ghost use Rattle.stm_model.specs.Moves.{AwaitsAsk, Does, IsCall, MayAsk, Takes, moved};
+ghost use Rattle.stm_model.specs.declared.access.Ask.TheVariants.{Finish, Get, Set};
+ghost use Rattle.stm_model.specs.declared.cause.Addr.{Addr};
+ghost use Rattle.stm_model.specs.declared.cause.Cause.{Cause};
+ghost use Rattle.stm_model.specs.declared.ending.Ending.{Ending};
+
+use crate::next::Next;
+use crate::running::Running;
+use read_set::ReadSet;
+use std::alloc::Global;
+use std::marker::Model;
+use stm_model::{Ask, Memory, Settings, Shown};
+use write_buffer::WriteBuffer;
+
+/// One attempt of a caller to run a transaction. It is asked for cells, and tells by `next` what it does:
+/// an access, whose answer it is given by `take`, or a ring, by which whoever waits for a cell is woken and
+/// which `ran` tells it was done, or a reply. It touches no shared memory, so the same machine runs on a
+/// shared table and under a written schedule.
+#[derive(Drop)]
+pub struct Attempt {
+    running: Running,
+}
+
+impl Model for Attempt {
+    ghost use Rattle.stm_core.specs.Machine.{Machine};
+    ghost use Rattle.stm_core.specs.Running.{IsSound, machine_of};
+
+    ghost Value = { Machine };
+
+    ghost view = { λ a. machine_of a.running };
+
+    ghost invariant = { λ a. IsSound a.running };
+}
+
+impl Attempt {
+    /// The attempt of this number among those of its caller, before its first access. The caller's number is at
+    /// most 2,047, the attempt's is below 2^62. It takes no memory yet.
+    pub fn begin(alloc: Global, own: u16, serial: u64, settings: Settings) -> Attempt
+        requires own { own ≤ MAX_OWNER }
+        requires serial { serial ≤ MAX_SERIAL }
+        requires settings { SettingsFit settings }
+        ensures begins { result.attempt ≡ record (no_attempt own settings) { serial = serial; stage = Announce } }
+        ensures left { result.left ≡ 2 }
+    {
+        Attempt {
+            running: Running::new(alloc, own, serial, settings),
+        }
+    }
+
+    /// Takes memory for so many first reads and first writes more, beside one that is under way.
+    pub fn reserve(&mut self, reads: usize, writes: usize) -> Result<(), Memory>
+        ensures same { self.new.attempt ≡ self.old.attempt }
+        ensures left { self.new.left ≡ self.old.left }
+        ensures ok { OnOk result (HasSpare reads writes self.new) }
+        ensures room { HasSpare self.old.spare_reads self.old.spare_writes self.new }
+    {
+        self.running.reserve(reads, writes)
+    }
+
+    /// Asks it for something, where its reply isn't the end. `Finish` ends the body, `Abandon` rolls it back with
+    /// a cause of the body's own or the one that it was refused with. Want of memory is the cause `Memory`.
+    /// After any cause each later ask of a cell leaves it as it is, so that the reply is the same.
+    pub fn ask(&mut self, ask: Ask)
+        requires waits { AwaitsAsk self.old.attempt }
+        requires built { IsBuilt ask }
+        requires may { MayAsk (2 ^ 32) self.old.attempt ask }
+        ensures moves { (self.new.attempt ≡ moved self.old.attempt (Takes ask)) ⊎ IsRefused self.old.attempt ask self.new.attempt }
+        ensures read { (addr : Addr) → ask ≡ Get addr → 0 < self.old.spare_reads → self.new.attempt ≡ moved self.old.attempt (Takes ask) }
+        ensures written { (addr : Addr) (value : ℕ) → ask ≡ Set addr value → IsFalse (writes_to self.old.attempt.now.writes addr.0) → 0 < self.old.spare_writes →
+            self.new.attempt ≡ moved self.old.attempt (Takes ask) }
+        ensures same { IsSameAttempt self.old.attempt self.new.attempt }
+        ensures stays { (cause : Cause) → self.old.attempt.stage ≡ Stopped cause → IsCall ask → self.new.attempt ≡ self.old.attempt }
+        ensures room { HasSpare (self.old.spare_reads - reads_asked ask) (self.old.spare_writes - writes_asked ask) self.new }
+        ensures bound { self.new.left ≤ accesses_asked self.old.attempt ask }
+    {
+        self.running.ask(ask);
+    }
+
+    /// What it does next, which says which call may follow.
+    pub fn next(&self) -> Next
+        ensures next { next_of self.now.attempt ≡ Some result }
+        ensures going { MakesAccess result → IsSome (next self.now.attempt) }
+        ensures clock { (answer : ℕ) → (FindsClock result → answer ≤ self.now.attempt.settings.clock) → ClockFits self.now.attempt (next self.now.attempt) answer }
+        ensures due { IsDue result → 0 < length self.now.attempt.due }
+        ensures waits { IsToBeAsked result → AwaitsAsk self.now.attempt }
+        ensures finish { IsToBeAsked result → MayAsk (2 ^ 32) self.now.attempt Finish }
+        ensures over { (ending : Ending) → result ≡ ToReply (IsOver ending) → IsAtRest self.now.attempt ending }
+    {
+        self.running.next()
+    }
+
+    /// Takes the word that its access found: the clock, where that is what it found, is at most the
+    /// settings'. It takes no memory.
+    pub fn take(&mut self, answer: u64)
+        requires going { IsSome (next self.old.attempt) }
+        requires clock { ClockFits self.old.attempt (next self.old.attempt) answer }
+        ensures after { self.new.attempt ≡ after_word self.old.attempt answer }
+        ensures same { IsSameAttempt self.old.attempt self.new.attempt }
+        ensures falls { self.new.left < self.old.left }
+        ensures room { HasSpare self.old.spare_reads self.old.spare_writes self.new }
+    {
+        self.running.take(answer);
+    }
+
+    /// What came due was done: a cell was rung for.
+    pub fn ran(&mut self)
+        requires { 0 < length self.old.attempt.due }
+        ensures does { self.new.attempt ≡ moved self.old.attempt Does }
+        ensures same { IsSameAttempt self.old.attempt self.new.attempt }
+        ensures left { self.new.left ≡ self.old.left }
+        ensures room { HasSpare self.old.spare_reads self.old.spare_writes self.new }
+    {
+        self.running.ring();
+    }
+
+    /// What it has read.
+    pub fn reads(&self) -> &ReadSet
+        ensures { result.now.notes ≡ self.now.attempt.notes }
+    {
+        &self.running.footprint.reads
+    }
+
+    /// What it has written, the cells in the order in which they came.
+    pub fn writes(&self) -> &WriteBuffer
+        ensures { result.now.writes ≡ self.now.attempt.now.writes }
+    {
+        &self.running.footprint.writes
+    }
+
+    /// What it has read, once it is over.
+    pub fn into_reads(self) -> ReadSet
+        requires { self.attempt.stage ≡ Ended }
+        ensures { result.notes ≡ self.attempt.notes }
+    {
+        self.running.footprint.reads
+    }
+}
+
+/// It tells itself, and once it has ended that there is none.
+impl Shown for Attempt {
+    ghost use Rattle.stm_core.specs.Machine.{in_flight};
+
+    ghost shows = { λ a. in_flight a.attempt };
+}

@@ -1,0 +1,61 @@
+//! What an attempt has read and written, as notes.
+ghost use Rattle.std.specs.Prelude.{◌≡◌, ◌<◌};
+
+use read_set::ReadSet;
+use stm_model::{Note, Notes};
+use write_buffer::WriteBuffer;
+
+/// What an attempt has read and written. As notes it is the buffered cells, and then what was read.
+#[derive(Debug, Drop)]
+pub struct Footprint {
+    pub reads: ReadSet,
+    pub writes: WriteBuffer,
+}
+
+/// The buffered cells as notes: each has the version 0 and its new value.
+#[derive(Clone, Copy, Debug)]
+pub struct Written<'a> {
+    pub buffer: &'a WriteBuffer,
+}
+
+impl<'a> Notes for Written<'a> {
+    ghost use Rattle.op_commit.specs.Buffered.{buffered};
+
+    ghost notes = { λ written. buffered written.buffer.now.writes };
+
+    fn len(&self) -> usize {
+        self.buffer.len()
+    }
+
+    fn at(&self, index: usize) -> Note {
+        let (addr, value) = self.buffer.at(index);
+        Note {
+            addr,
+            version: 0,
+            value,
+        }
+    }
+}
+
+impl Notes for Footprint {
+    ghost use Rattle.std.specs.Prelude.{◌++◌};
+    ghost use Rattle.op_commit.specs.Buffered.{buffered};
+
+    ghost notes = { λ footprint. buffered footprint.writes.writes ++ footprint.reads.notes };
+
+    fn len(&self) -> usize {
+        self.writes.len() + self.reads.len()
+    }
+
+    fn at(&self, index: usize) -> Note {
+        let written = Written {
+            buffer: &self.writes,
+        };
+        let count = written.len();
+        if index < count {
+            written.at(index)
+        } else {
+            self.reads.at(index - count)
+        }
+    }
+}

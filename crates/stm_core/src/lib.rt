@@ -1,0 +1,18 @@
+//! One attempt of a transaction as a machine: it is asked for cells, and tells which access comes next.
+//! It touches no shared memory.
+#![tactic(auto)]
+
+mod asks;
+mod attempt;
+mod footprint;
+mod next;
+mod rung;
+mod running;
+
+pub use attempt::Attempt;
+pub use footprint::{Footprint, Written};
+pub use next::{Next, Reply};
+pub use stm_model::{Ask, Ending};
+
+#[cfg(test)]
+mod tests;

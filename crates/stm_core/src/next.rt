@@ -1,0 +1,31 @@
+//! What an attempt does next, and what it replies.
+
+use stm_model::{Access, Addr, Cause, Ending, HookPhase};
+
+/// What an attempt replies to an ask.
+#[derive(Clone, Copy, Debug, PartialEq, Eq)]
+pub enum Reply {
+    /// It waits to be asked.
+    Ready,
+    /// The value that was read, and it waits to be asked.
+    Value(u64),
+    /// It was refused something, and waits to be rolled back.
+    Stopped(Cause),
+    /// It is over.
+    Ended(Ending),
+}
+
+/// What an attempt does next.
+#[derive(Clone, Copy, Debug, PartialEq, Eq)]
+pub enum Next {
+    Access(Access),
+    /// The exchange of the clock from `old` to `old + 1`, by which a commit is decided.
+    Decide { old: u64 },
+    /// A handler is to be run.
+    Run { phase: HookPhase, token: u64 },
+    /// A body that was put off is to be run.
+    Before { token: u64 },
+    /// Who waits for the cell is to be woken.
+    Ring(Addr),
+    Reply(Reply),
+}
