@@ -1,0 +1,171 @@
+-- An attempt that has begun to commit or to roll back goes on so until it is over.
+use Rattle.std.proofs.Common.{◌≡◌, ◌⊎◌, inl, inr, ℕ, suc, Bool, true, false, nat_eq, nat_lt, List, [], ◌∷◌, drop, IsTrue, Option, Some, None, ap, sym, ◌∙◌, refl, if◌then◌else◌}
+use Rattle.meta_word.specs.Meta.{still_has}
+use Rattle.meta_word.specs.declared.status.Phase.TheVariants.{Preparing}
+use Rattle.opacity.proofs.Places.{attempt_here}
+use Rattle.stm_core.specs.Machine.{next_of}
+use Rattle.stm_model.specs.Accesses.{Act, Answer, Number, OfMeta, OfStatus, active, next, next_at, unless_due}
+use Rattle.stm_model.specs.After.{after_at, check_on, checked, decided, mark_on, prepared, release_on, ring_if, roll_on, rolled, run_all, same_status, store_on}
+use Rattle.stm_model.specs.Attempt.{Attempt, Due, Run, Ring, Stage, Write, Announce, Begin, Ready, Late, Stopped, FirstLook, Renew, Extend, Fetch, SecondLook, Acquire, Own, SeeOwner, SeeAgain, DoomOwner, GiveBack, Prepare, Mark, Sample, Check, Decide, StoreValues, Release, RollBack, Close, Ended}
+use Rattle.stm_model.specs.Handlers.{committing, preparing}
+use Rattle.stm_model.specs.Moves.{AwaitsAsk, AwaitsAskAt, Does, Takes, asked_at, asked_going, asked_stopped, conclude, did_first, moved, turn_to}
+use Rattle.stm_model.specs.World.{World, attempt_of, step, step_by, view_after, words_after}
+use Rattle.stm_model.specs.declared.access.Ask.TheVariants.{Finish}
+use Rattle.stm_model.specs.declared.cause.Cause.{Cause}
+use Rattle.stm_model.specs.declared.ending.Ending.TheVariants.{Committed, Rolled}
+use Rattle.stm_model.specs.declared.note.Note.{Note}
+use Rattle.world_run.specs.Company.{IsFlat, replies}
+use Rattle.world_run.specs.Run.{IsClosing}
+use Rattle.world_run.proofs.Nexts.{is_quiet}
+
+abbrev Closing : Attempt → Type 0
+Closing t = IsClosing t.stage
+
+if_closing : (b : Bool) (t u : Attempt) → Closing t → Closing u → Closing (if b then t else u)
+if_closing true t u first second = first
+if_closing false t u first second = second
+
+mark_closing : (t : Attempt) (behind : List Write) → Closing (mark_on t behind)
+unfolding IsClosing
+mark_closing t [] = tt
+mark_closing t (write ∷ behind) = tt
+
+release_closing : (t : Attempt) (behind : List Write) → Closing (release_on t behind)
+unfolding IsClosing
+release_closing t [] = tt
+release_closing t (write ∷ behind) = tt
+
+store_closing : (t : Attempt) (behind : List Write) → Closing (store_on t behind)
+unfolding IsClosing
+store_closing t [] = release_closing t t.now.writes
+store_closing t (write ∷ behind) = tt
+
+roll_closing : (t : Attempt) (behind : List Write) → Closing (roll_on t behind)
+unfolding IsClosing
+roll_closing t [] = tt
+roll_closing t (write ∷ behind) = tt
+
+rolled_closing : (t : Attempt) (cause : Cause) → Closing (rolled t cause)
+rolled_closing t cause = roll_closing (record t { ending = Some (Rolled cause t.prefix) }) t.now.writes
+
+check_closing : (t : Attempt) (lost clock : ℕ) (behind : List Note) → Closing (check_on t lost clock behind)
+unfolding check_on IsClosing
+check_closing t lost clock [] = if_closing (nat_eq clock t.settings.clock) _ _ (rolled_closing (record t { prefix = clock }) _) tt
+check_closing t lost clock (note ∷ behind) = tt
+
+decided_closing : (t : Attempt) (lost clock found : ℕ) → Closing (decided t lost clock found)
+unfolding decided IsClosing
+decided_closing t lost clock found =
+    if_closing (nat_eq found clock) _ _ (store_closing (record t { ending = Some (Committed (suc clock)); due = run_all (committing t.now.hooks) }) t.now.writes)
+    (if_closing (nat_lt lost t.settings.tries) _ _ tt (rolled_closing t _))
+
+after_closing : (t : Attempt) (stage : Stage) (answer : Answer) → t.stage ≡ stage → IsClosing stage → Closing (after_at t stage answer)
+unfolding after_at IsClosing checked prepared
+after_closing t Prepare (OfStatus found) is closing =
+    if_closing (same_status found (active t.serial)) _ _ (mark_closing (record t { phase = Preparing; due = run_all (preparing t.now.hooks) }) t.now.writes) (rolled_closing t _)
+after_closing t (Mark write behind) (OfMeta found) is closing = mark_closing t behind
+after_closing t (Sample lost) (Number clock) is closing = check_closing t lost clock t.notes
+after_closing t (Check lost clock note behind) (OfMeta found) is closing =
+    if_closing (still_has t.own note.version found) _ _ (check_closing t lost clock behind) (rolled_closing t _)
+after_closing t (Decide lost clock) (Number found) is closing = decided_closing t lost clock found
+after_closing t (StoreValues write behind) (Number found) is closing = store_closing t behind
+after_closing t (Release write behind) (OfMeta found) is closing = release_closing (record t { due = ring_if found.pending write.0 }) behind
+after_closing t (RollBack write behind) (OfMeta found) is closing = roll_closing (record t { due = ring_if found.pending write.0 }) behind
+after_closing t Close (OfStatus found) is closing = tt
+after_closing t Announce answer is closing = absurd closing
+after_closing t Begin answer is closing = absurd closing
+after_closing t (FirstLook cell left) answer is closing = absurd closing
+after_closing t (Renew cell left first) answer is closing = absurd closing
+after_closing t (Extend cell left first clock note behind) answer is closing = absurd closing
+after_closing t (Fetch cell left first) answer is closing = absurd closing
+after_closing t (SecondLook cell left first value) answer is closing = absurd closing
+after_closing t (Acquire cell value left tried) answer is closing = absurd closing
+after_closing t (Own cell value left tried first expected again) answer is closing = absurd closing
+after_closing t (SeeOwner cell value left first) answer is closing = absurd closing
+after_closing t (SeeAgain cell value left first status) answer is closing = absurd closing
+after_closing t (DoomOwner cell value left first second status) answer is closing = absurd closing
+after_closing t (GiveBack kept write behind) answer is closing = absurd closing
+after_closing t stage answer is closing = rw is closing
+
+pub closing_step : (w : World) (p : ℕ) → IsClosing (attempt_of w p).stage → IsClosing (attempt_of (step w p) p).stage
+unfolding step_by
+closing_step w p closing = go (next (attempt_of w p))
+  where
+    go : (this : Option Act) → IsClosing (attempt_of (step_by w p this) p).stage
+    go None = closing
+    go (Some act) =
+        rw (attempt_here (words_after w (attempt_of w p) act) p (view_after w (w.view p) act)) (after_closing (attempt_of w p) (attempt_of w p).stage _ refl closing)
+
+pub closing_does : (t : Attempt) → IsClosing t.stage → IsClosing (moved t Does).stage
+unfolding moved
+closing_does t closing = go t.due
+  where
+    go : (due : List Due) → IsClosing (did_first t due).stage
+    go [] = closing
+    go (Run phase token ∷ dues) = closing
+    go (Ring cell ∷ dues) = closing
+
+-- Who is closing doesn't wait to be asked.
+pub closing_waits : {A : Type 0} (stage : Stage) → IsClosing stage → AwaitsAskAt stage → A
+unfolding IsClosing AwaitsAskAt
+closing_waits (Ready told) closing waits = absurd closing
+closing_waits (Late token) closing waits = absurd closing
+closing_waits (Stopped cause) closing waits = absurd closing
+closing_waits stage closing waits = absurd waits
+
+-- ---- the end of a body
+
+conclude_closing : (t : Attempt) (writes : List Write) → Closing (conclude t writes)
+unfolding IsClosing
+conclude_closing t [] = tt
+conclude_closing t (write ∷ writes) = tt
+
+turn_closing : (t : Attempt) (tokens : List ℕ) → tokens ≡ [] → Closing (turn_to t tokens)
+turn_closing t [] none = conclude_closing t t.now.writes
+turn_closing t (token ∷ tokens) none = cc
+
+finish_at : (t : Attempt) (stage : Stage) → IsFlat t → AwaitsAskAt stage → Closing (asked_at t stage Finish)
+unfolding asked_at asked_going asked_stopped AwaitsAskAt
+finish_at t (Ready told) flat waits = turn_closing t (drop t.turn t.now.laters) (rw (flat.laters, flat.turn) refl)
+finish_at t (Late token) flat waits = turn_closing t (drop t.turn t.now.laters) (rw (flat.laters, flat.turn) refl)
+finish_at t (Stopped cause) flat waits = rolled_closing t cause
+finish_at t stage flat waits = absurd waits
+
+pub finish_closing : (t : Attempt) → IsFlat t → AwaitsAskAt t.stage → IsClosing (moved t (Takes Finish)).stage
+unfolding moved
+finish_closing t flat waits = finish_at t t.stage flat waits
+
+-- ---- where it replies
+
+rests_at : (t : Attempt) (stage : Stage) → next_at t stage ≡ None → AwaitsAskAt stage ⊎ (stage ≡ Ended)
+unfolding next_at AwaitsAskAt
+rests_at t (Ready told) is = inl tt
+rests_at t (Late token) is = inl tt
+rests_at t (Stopped cause) is = inl tt
+rests_at t Ended is = inr refl
+rests_at t stage is = cc
+
+-- Who replies waits to be asked, or is over.
+pub replies_so : (t : Attempt) → IsTrue (replies (next_of t)) → AwaitsAsk t ⊎ ((t.stage ≡ Ended) × (t.due ≡ []))
+replies_so t is =
+    let both = is_quiet t (next_of t) refl is in
+    let none : next_at t t.stage ≡ None = ap (λ (due : List Due). unless_due due (next_at t t.stage)) (sym both.1) ∙ both.0 in
+    elim (rests_at t t.stage none) [
+      | inl waits ↦ inl (record { stands = waits; nothing_due = both.1 })
+      | inr over ↦ inr (over, both.1)
+    ]
+
+-- Who replies and is closing is over.
+pub ends_settled : (t : Attempt) → IsClosing t.stage → IsTrue (replies (next_of t)) → (t.stage ≡ Ended) × (t.due ≡ [])
+ends_settled t closing is = elim (replies_so t is) [
+  | inl waits ↦ closing_waits t.stage closing waits.stands
+  | inr over ↦ over
+]
+
+-- Who replies and doesn't wait to be asked is closing.
+pub ended_closing : (t : Attempt) → IsTrue (replies (next_of t)) → (AwaitsAsk t → ⊥) → IsClosing t.stage
+unfolding IsClosing
+ended_closing t is not = elim (replies_so t is) [
+  | inl waits ↦ absurd (not waits)
+  | inr over ↦ rw over.0 tt
+]

@@ -1,0 +1,13 @@
+pub mod Seats
+pub mod Nexts
+pub mod Steps
+pub mod Flats
+pub mod Turns
+pub mod Openings
+pub mod Asks
+pub mod Finds
+pub mod Falls
+pub mod Closings
+pub mod Entries
+pub mod Going
+pub mod Ran
