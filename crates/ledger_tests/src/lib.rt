@@ -1,7 +1,9 @@
 //! Tests that cross crates: the top call over memory (worked jobs, refusals, failing ends, the greatest
-//! texts), and the operations of an attempt over its read set.
+//! texts), the operations of an attempt over its read set, and two transactions in every interleaving.
 #![tactic(auto)]
 
+#[cfg(test)]
+mod interleavings;
 #[cfg(test)]
 mod operations;
 #[cfg(test)]
