@@ -1,5 +1,5 @@
 -- What a machine's next move says of its attempt.
-use Rattle.std.proofs.Common.{Result, Ok, Err, OnErr, ◌≡◌, ℕ, Bool, true, false, IsTrue, IsFalse, ◌<◌, List, [], ◌∷◌, Option, Some, None, ap, sym, refl, subst, length, arith}
+use Rattle.std.proofs.Common.{Result, Ok, Err, OnErr, ◌≡◌, ℕ, Bool, true, false, IsTrue, ◌<◌, List, [], ◌∷◌, Option, Some, None, ap, sym, refl, subst, length, arith}
 use Rattle.opacity.specs.Plain.{IsUndecided}
 use Rattle.stm_core.specs.Machine.{after_due, made, next_of, over, standing}
 use Rattle.stm_core.specs.declared.next.Next.{Next}
@@ -194,10 +194,6 @@ quiet_due t (Ring cell ∷ dues) is = cc
 
 pub is_quiet : (t : Attempt) (told : Option Next) → told ≡ next_of t → IsTrue (replies told) → (next t ≡ None) × (t.due ≡ [])
 is_quiet t told same is = quiet_due t t.due (subst (λ (next : Option Next). IsTrue (replies next)) same is)
-
--- Who doesn't reply does something.
-pub no_reply : {A : Type 0} (t : Attempt) (told : Option Next) → told ≡ next_of t → IsTrue (replies told) → IsFalse (replies (next_of t)) → A
-no_reply t told same is not = let here : IsTrue (replies (next_of t)) = subst (λ (next : Option Next). IsTrue (replies next)) same is in cc
 
 no_due_over : (ending : Option Ending) → has_due (over ending) ≡ false
 no_due_over None = refl
