@@ -1,7 +1,8 @@
 -- A world that runs with its callers' attempts. Here c is such a company, w a world and p a caller's number.
 use Rattle.std.specs.Prelude.{◌≡◌, ℕ, Bool, true, false, ◌*◌, ◌+◌, ◌-◌, ◌<◌, ◌≤◌, ◌^◌, ◌⊎◌, List, [], ◌∷◌, IsSome, length, slice_index_or, slice_set, Option, Some, None}
 use Rattle.meta_word.specs.declared.status.TheConstants.{MAX_SERIAL}
-use Rattle.opacity.specs.Plain.{terms_of}
+use Rattle.opacity.specs.Plain.{history_of, terms_of}
+use Rattle.opacity.specs.declared.world.Committed.{Committed}
 use Rattle.stm_core.specs.declared.next.Next.{Next}
 use Rattle.stm_core.specs.declared.next.Next.TheVariants.{Before, Decide, Reply}
 use Rattle.stm_core.specs.declared.next.Reply.TheVariants.{Ended as IsOver, Ready as IsReady, Stopped as IsStopped, Value as IsValue}
@@ -28,6 +29,10 @@ pub record Company : Type 0 where
   pub words : List ℕ
   pub history : List Entry
   pub crew : List (Option Machine)
+
+-- a company over such a world, with the history as it is kept
+abbrev pub company_of : (opening words : List ℕ) → (kept : List Committed) → Settings → (crew : List (Option Machine)) → Company
+company_of opening words kept settings crew = record { opening = opening; settings = settings; words = words; history = history_of kept; crew = crew }
 
 abbrev pub terms_in : Company → Terms
 terms_in c = terms_of c.opening c.settings.callers c.settings.clock

@@ -29,14 +29,13 @@ pub struct Company {
 }
 
 impl Model for Company {
-    ghost use Rattle.opacity.specs.Plain.{history_of};
-    ghost use Rattle.world_run.specs.Company.{Company, Stands};
+    ghost use Rattle.world_run.specs.Company.{Company, Stands, company_of};
 
     ghost Value = { Company };
 
-    ghost view = { λ c. record { opening = c.world.opening.items; settings = c.settings; words = c.world.words.items; history = history_of c.world.history.items; crew = c.crew.items } };
+    ghost view = { λ c. company_of c.world.opening.items c.world.words.items c.world.history.items c.settings c.crew.items };
 
-    ghost invariant = { λ c. Stands c.world.callers c.world.limit (record { opening = c.world.opening.items; settings = c.settings; words = c.world.words.items; history = history_of c.world.history.items; crew = c.crew.items }) };
+    ghost invariant = { λ c. Stands c.world.callers c.world.limit (company_of c.world.opening.items c.world.words.items c.world.history.items c.settings c.crew.items) };
 }
 
 impl Company {

@@ -1,21 +1,14 @@
 use Rattle.std.proofs.Common.{◌≡◌, ℕ, ◌<◌, ◌≤◌, ◌^◌, ◌⊎◌, sym, refl, subst, length, arith}
-use Rattle.opacity.specs.Plain.{history_of}
 use Rattle.stm_model.specs.Moves.{AwaitsAsk, Lacks, Takes}
 use Rattle.stm_model.specs.World.{IsCaller, Moves}
-use Rattle.world_run.specs.Company.{Company, Happens, IsTaken, attempt_in, terms_in}
+use Rattle.world_run.specs.Company.{Company, Happens, IsTaken, attempt_in, terms_in, company_of}
 use Rattle.world_run.proofs.Asks.{asks, may_take_ask, stands_asked}
 use Rattle.world_run.proofs.company.Company.ask.Goals as goal
 
 pub ask_at-requires : goal.ask_at-requires
 ask_at-requires c =
     let inside = c.self.inside in
-    let before : Company = record {
-      opening = inside.world.opening.items;
-      settings = inside.settings;
-      words = inside.world.words.items;
-      history = history_of inside.world.history.items;
-      crew = inside.crew.items;
-    } in
+    let before : Company = company_of inside.world.opening.items inside.world.words.items inside.world.history.items inside.settings inside.crew.items in
     let caller = subst (λ (v : Company). IsCaller (terms_in v) c.args.caller) (sym c.self.view_is) c.requires.caller in
     let able = subst (λ (v : Company). AwaitsAsk (attempt_in v c.args.caller)) (sym c.self.view_is) (c.waits.ensures.waits c.if-not-waits.false) in
     let size : c.len.result ≡ length inside.world.opening.items = omega (arith, c.len.ensures, inside.world.opening.ok.0) in
@@ -27,13 +20,7 @@ ask_at-requires c =
 pub invariant_of-self : goal.invariant_of-self
 invariant_of-self c =
     let inside = c.self.inside in
-    let before : Company = record {
-      opening = inside.world.opening.items;
-      settings = inside.settings;
-      words = inside.world.words.items;
-      history = history_of inside.world.history.items;
-      crew = inside.crew.items;
-    } in
+    let before : Company = company_of inside.world.opening.items inside.world.words.items inside.world.history.items inside.settings inside.crew.items in
     let caller = subst (λ (v : Company). IsCaller (terms_in v) c.args.caller) (sym c.self.view_is) c.requires.caller in
     let able = subst (λ (v : Company). AwaitsAsk (attempt_in v c.args.caller)) (sym c.self.view_is) (c.waits.ensures.waits c.if-not-waits.false) in
     let size : c.len.result ≡ length inside.world.opening.items = omega (arith, c.len.ensures, inside.world.opening.ok.0) in
@@ -46,13 +33,7 @@ invariant_of-self c =
 pub returns-clause-asked : goal.returns-clause-asked
 returns-clause-asked c = λ yes.
     let inside = c.self.inside in
-    let before : Company = record {
-      opening = inside.world.opening.items;
-      settings = inside.settings;
-      words = inside.world.words.items;
-      history = history_of inside.world.history.items;
-      crew = inside.crew.items;
-    } in
+    let before : Company = company_of inside.world.opening.items inside.world.words.items inside.world.history.items inside.settings inside.crew.items in
     let caller = subst (λ (v : Company). IsCaller (terms_in v) c.args.caller) (sym c.self.view_is) c.requires.caller in
     let able = subst (λ (v : Company). AwaitsAsk (attempt_in v c.args.caller)) (sym c.self.view_is) (c.waits.ensures.waits c.if-not-waits.false) in
     let size : c.len.result ≡ length inside.world.opening.items = omega (arith, c.len.ensures, inside.world.opening.ok.0) in

@@ -1,10 +1,9 @@
 use Rattle.std.proofs.Common.{◌≡◌, ◌-◌, ◌<◌, ◌≤◌, [], Some, sym, refl, subst, ◌∙◌, arith, get_or, set}
 use Rattle.meta_word.specs.Status.{status_of}
-use Rattle.opacity.specs.Plain.{history_of}
 use Rattle.stm_model.specs.Attempt.{Ended}
 use Rattle.stm_model.specs.Moves.{Begins}
 use Rattle.stm_model.specs.World.{IsCaller, Moves}
-use Rattle.world_run.specs.Company.{Company, Happens, MayBegin, attempt_in, terms_in}
+use Rattle.world_run.specs.Company.{Company, Happens, MayBegin, attempt_in, terms_in, company_of}
 use Rattle.world_run.proofs.Turns.{able_to_begin, begins_so, flat_begins, moves, serial_is, stands_moved}
 use Rattle.world_run.proofs.company.Company.begin.Goals as goal
 
@@ -14,13 +13,7 @@ returns-then-not-rests-clause-may c = λ may. sym c.if-not-rests.true ∙ c.rest
 pub returns-then-serial-self-clause-may : goal.returns-then-serial-self-clause-may
 returns-then-serial-self-clause-may c = λ may.
     let inside = c.self.inside in
-    let before : Company = record {
-      opening = inside.world.opening.items;
-      settings = inside.settings;
-      words = inside.world.words.items;
-      history = history_of inside.world.history.items;
-      crew = inside.crew.items;
-    } in
+    let before : Company = company_of inside.world.opening.items inside.world.words.items inside.world.history.items inside.settings inside.crew.items in
     let caller = subst (λ (v : Company). IsCaller (terms_in v) c.args.caller) (sym c.self.view_is) c.requires.caller in
     let able = subst (λ (v : Company). MayBegin v c.args.caller) (sym c.self.view_is) may in
     let number = subst (λ (v : Company). c.serial-serial.result ≡ (status_of (get_or v.words c.args.caller 0)).serial) (sym c.self.view_is) c.serial-serial.ensures in
@@ -32,13 +25,7 @@ returns-then-serial-self-clause-may c = λ may.
 pub invariant_of-self : goal.invariant_of-self
 invariant_of-self c =
     let inside = c.self.inside in
-    let before : Company = record {
-      opening = inside.world.opening.items;
-      settings = inside.settings;
-      words = inside.world.words.items;
-      history = history_of inside.world.history.items;
-      crew = inside.crew.items;
-    } in
+    let before : Company = company_of inside.world.opening.items inside.world.words.items inside.world.history.items inside.settings inside.crew.items in
     let after : Company = record before { crew = set inside.crew.items (c.args.caller - 1) (Some c.begin-attempt.result) } in
     let caller = subst (λ (v : Company). IsCaller (terms_in v) c.args.caller) (sym c.self.view_is) c.requires.caller in
     let rests = c.rests.ensures.over c.if-not-rests.false in
@@ -53,13 +40,7 @@ invariant_of-self c =
 pub returns-clause-begins : goal.returns-clause-begins
 returns-clause-begins c = λ yes.
     let inside = c.self.inside in
-    let before : Company = record {
-      opening = inside.world.opening.items;
-      settings = inside.settings;
-      words = inside.world.words.items;
-      history = history_of inside.world.history.items;
-      crew = inside.crew.items;
-    } in
+    let before : Company = company_of inside.world.opening.items inside.world.words.items inside.world.history.items inside.settings inside.crew.items in
     let after : Company = record before { crew = set inside.crew.items (c.args.caller - 1) (Some c.begin-attempt.result) } in
     let caller = subst (λ (v : Company). IsCaller (terms_in v) c.args.caller) (sym c.self.view_is) c.requires.caller in
     let rests = c.rests.ensures.over c.if-not-rests.false in

@@ -1,13 +1,13 @@
 use Rattle.std.proofs.Common.{◌≡◌, List, Option, Some, sym, refl, subst, ap, ◌∙◌, ◌<◌}
 use Rattle.op_commit.specs.Buffered.{buffered}
-use Rattle.opacity.specs.Plain.{IsCrew, history_of, writes_in}
+use Rattle.opacity.specs.Plain.{IsCrew, writes_in}
 use Rattle.stm_core.specs.Machine.{Machine, next_of}
 use Rattle.stm_core.specs.declared.next.Next.TheVariants.{Decide as ToDecide}
 use Rattle.stm_model.specs.Accesses.{TakeClock}
 use Rattle.stm_model.specs.Attempt.{Attempt, Write}
 use Rattle.stm_model.specs.Shown.{shown_by}
 use Rattle.stm_model.specs.World.{IsCaller, Steps, World}
-use Rattle.world_run.specs.Company.{Company, Happens, Shows, attempt_in, terms_in, left_of}
+use Rattle.world_run.specs.Company.{Company, Happens, Shows, attempt_in, terms_in, left_of, company_of}
 use Rattle.world_run.proofs.Nexts.{takes_clock}
 use Rattle.world_run.proofs.Seats.{owes_none}
 use Rattle.world_run.proofs.Steps.{tells}
@@ -31,13 +31,7 @@ decide-requires-clause-old c =
     let caller = subst (λ (v : Company). IsCaller (terms_in v) c.args.caller) (sym c.self.view_is) c.requires.caller in
     let next = subst (λ (v : Company). next_of (attempt_in v c.args.caller) ≡ Some (ToDecide c.args.old)) (sym c.self.view_is) c.requires.next in
     let takes = takes_clock _ _ next in
-    let before : Company = record {
-      opening = world.opening.items;
-      settings = c.self.inside.settings;
-      words = world.words.items;
-      history = history_of world.history.items;
-      crew = c.self.inside.crew.items;
-    } in
+    let before : Company = company_of world.opening.items world.words.items world.history.items c.self.inside.settings c.self.inside.crew.items in
     clock_below before _ _ c.self.invariant c.args.caller caller c.args.old takes
 
 pub take-requires : goal.take-requires
@@ -46,13 +40,7 @@ take-requires c =
     let caller = subst (λ (v : Company). IsCaller (terms_in v) c.args.caller) (sym c.self.view_is) c.requires.caller in
     let next = subst (λ (v : Company). next_of (attempt_in v c.args.caller) ≡ Some (ToDecide c.args.old)) (sym c.self.view_is) c.requires.next in
     let takes = takes_clock _ _ next in
-    let before : Company = record {
-      opening = world.opening.items;
-      settings = c.self.inside.settings;
-      words = world.words.items;
-      history = history_of world.history.items;
-      crew = c.self.inside.crew.items;
-    } in
+    let before : Company = company_of world.opening.items world.words.items world.history.items c.self.inside.settings c.self.inside.crew.items in
     may_take before _ _ c.self.invariant c.args.caller caller (TakeClock c.args.old) takes c.in_ok-found.found (c.in_ok-found.ensures.found ∙ sym (clock_found (table before _ _ c.self.invariant c.args.caller caller) before.words c.args.old))
 
 pub invariant_of-self-2 : goal.invariant_of-self-2
@@ -61,20 +49,8 @@ invariant_of-self-2 c =
     let caller = subst (λ (v : Company). IsCaller (terms_in v) c.args.caller) (sym c.self.view_is) c.requires.caller in
     let next = subst (λ (v : Company). next_of (attempt_in v c.args.caller) ≡ Some (ToDecide c.args.old)) (sym c.self.view_is) c.requires.next in
     let takes = takes_clock _ _ next in
-    let before : Company = record {
-      opening = world.opening.items;
-      settings = c.self.inside.settings;
-      words = world.words.items;
-      history = history_of world.history.items;
-      crew = c.self.inside.crew.items;
-    } in
-    let after : Company = record {
-      opening = c.decide.new.self.opening.items;
-      settings = c.self.inside.settings;
-      words = c.decide.new.self.words.items;
-      history = history_of c.decide.new.self.history.items;
-      crew = c.take.new.crew.items;
-    } in
+    let before : Company = company_of world.opening.items world.words.items world.history.items c.self.inside.settings c.self.inside.crew.items in
+    let after : Company = company_of c.decide.new.self.opening.items c.decide.new.self.words.items c.decide.new.self.history.items c.self.inside.settings c.take.new.crew.items in
     let here : attempt_in before c.args.caller ≡ c.in-Some.attempt.attempt = seat_is c.self.inside.settings c.args.caller c.self.inside.crew.items (within before _ _ c.self.invariant c.args.caller caller) c.index.result.now c.in-Some.attempt c.index.ensures c.in-Some.is in
     let own_view = λ (w : World) (shows : Shows before w). sym (shows.attempts c.args.caller caller ∙ here) in
     let step = c.in_ok-found.ensures.step in
@@ -97,20 +73,8 @@ returns-clause-happens c =
     let caller = subst (λ (v : Company). IsCaller (terms_in v) c.args.caller) (sym c.self.view_is) c.requires.caller in
     let next = subst (λ (v : Company). next_of (attempt_in v c.args.caller) ≡ Some (ToDecide c.args.old)) (sym c.self.view_is) c.requires.next in
     let takes = takes_clock _ _ next in
-    let before : Company = record {
-      opening = world.opening.items;
-      settings = c.self.inside.settings;
-      words = world.words.items;
-      history = history_of world.history.items;
-      crew = c.self.inside.crew.items;
-    } in
-    let after : Company = record {
-      opening = c.decide.new.self.opening.items;
-      settings = c.self.inside.settings;
-      words = c.decide.new.self.words.items;
-      history = history_of c.decide.new.self.history.items;
-      crew = c.take.new.crew.items;
-    } in
+    let before : Company = company_of world.opening.items world.words.items world.history.items c.self.inside.settings c.self.inside.crew.items in
+    let after : Company = company_of c.decide.new.self.opening.items c.decide.new.self.words.items c.decide.new.self.history.items c.self.inside.settings c.take.new.crew.items in
     let here : attempt_in before c.args.caller ≡ c.in-Some.attempt.attempt = seat_is c.self.inside.settings c.args.caller c.self.inside.crew.items (within before _ _ c.self.invariant c.args.caller caller) c.index.result.now c.in-Some.attempt c.index.ensures c.in-Some.is in
     let own_view = λ (w : World) (shows : Shows before w). sym (shows.attempts c.args.caller caller ∙ here) in
     let step = c.in_ok-found.ensures.step in
@@ -130,13 +94,7 @@ returns-clause-happens c =
 pub returns-clause-falls : goal.returns-clause-falls
 returns-clause-falls c =
     let caller = subst (λ (v : Company). IsCaller (terms_in v) c.args.caller) (sym c.self.view_is) c.requires.caller in
-    let after : Company = record {
-      opening = c.decide.new.self.opening.items;
-      settings = c.self.inside.settings;
-      words = c.decide.new.self.words.items;
-      history = history_of c.decide.new.self.history.items;
-      crew = c.take.new.crew.items;
-    } in
+    let after : Company = company_of c.decide.new.self.opening.items c.decide.new.self.words.items c.decide.new.self.history.items c.self.inside.settings c.take.new.crew.items in
     subst (λ (v : Company). left_of after c.args.caller < left_of v c.args.caller) c.self.view_is (took_falls _ _ _ c.self.invariant c.args.caller caller after.crew c.in_ok-found.found c.take.ensures)
 
 pub returns-in_default-clause-falls : goal.returns-in_default-clause-falls

@@ -1,8 +1,7 @@
 use Rattle.std.proofs.Common.{◌<◌, sym, refl, subst, length}
-use Rattle.opacity.specs.Plain.{history_of}
 use Rattle.stm_model.specs.Moves.{Does}
 use Rattle.stm_model.specs.World.{IsCaller, Moves}
-use Rattle.world_run.specs.Company.{Company, Happens, attempt_in, terms_in, left_of}
+use Rattle.world_run.specs.Company.{Company, Happens, attempt_in, terms_in, left_of, company_of}
 use Rattle.world_run.proofs.Turns.{does, has_due, stands_done}
 use Rattle.world_run.proofs.Falls.{did_falls}
 use Rattle.world_run.proofs.company.Company.did.Goals as goal
@@ -23,24 +22,12 @@ pub returns-clause-happens : goal.returns-clause-happens
 returns-clause-happens c =
     let caller = subst (λ (v : Company). IsCaller (terms_in v) c.args.caller) (sym c.self.view_is) c.requires.caller in
     let due = subst (λ (v : Company). 0 < length (attempt_in v c.args.caller).due) (sym c.self.view_is) c.requires.due in
-    let after : Company = record {
-      opening = c.self.inside.world.opening.items;
-      settings = c.self.inside.settings;
-      words = c.self.inside.world.words.items;
-      history = history_of c.self.inside.world.history.items;
-      crew = c.did.new.crew.items;
-    } in
+    let after : Company = company_of c.self.inside.world.opening.items c.self.inside.world.words.items c.self.inside.world.history.items c.self.inside.settings c.did.new.crew.items in
     subst (λ (v : Company). Happens v (Moves c.args.caller Does) after) c.self.view_is (does _ _ _ c.self.invariant c.args.caller caller due after refl refl refl refl c.did.ensures)
 
 pub returns-clause-falls : goal.returns-clause-falls
 returns-clause-falls c =
     let caller = subst (λ (v : Company). IsCaller (terms_in v) c.args.caller) (sym c.self.view_is) c.requires.caller in
     let due = subst (λ (v : Company). 0 < length (attempt_in v c.args.caller).due) (sym c.self.view_is) c.requires.due in
-    let after : Company = record {
-      opening = c.self.inside.world.opening.items;
-      settings = c.self.inside.settings;
-      words = c.self.inside.world.words.items;
-      history = history_of c.self.inside.world.history.items;
-      crew = c.did.new.crew.items;
-    } in
+    let after : Company = company_of c.self.inside.world.opening.items c.self.inside.world.words.items c.self.inside.world.history.items c.self.inside.settings c.did.new.crew.items in
     subst (λ (v : Company). left_of after c.args.caller < left_of v c.args.caller) c.self.view_is (did_falls _ _ _ c.self.invariant c.args.caller caller after.crew due c.did.ensures)

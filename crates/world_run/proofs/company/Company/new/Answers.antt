@@ -1,6 +1,5 @@
 use Rattle.std.proofs.Common.{refl}
-use Rattle.opacity.specs.Plain.{history_of}
-use Rattle.world_run.specs.Company.{Company}
+use Rattle.world_run.specs.Company.{Company, company_of}
 use Rattle.world_run.proofs.Openings.{opened_shows, opened_stands}
 use Rattle.world_run.proofs.company.Company.new.Goals as goal
 
@@ -8,13 +7,7 @@ pub invariant_of-result : goal.invariant_of-result
 invariant_of-result c =
     let world = c.in_ok-world.world in
     let made = c.in_ok-world.ensures in
-    let after : Company = record {
-      opening = world.opening.items;
-      settings = c.args.settings;
-      words = world.words.items;
-      history = history_of world.history.items;
-      crew = c.in_ok-crew.crew.items;
-    } in
+    let after : Company = company_of world.opening.items world.words.items world.history.items c.args.settings c.in_ok-crew.crew.items in
     opened_stands after c.in_ok-crew.ensures.each (rw made.history refl) (rw made.opening (made.opens c.args.settings)) (rw made.opening (made.safe c.args.settings refl)) _ _
     made.callers made.limit c.in_ok-crew.ensures.size c.requires.settings c.requires.attempts
 
@@ -22,11 +15,5 @@ pub returns-clause-opens : goal.returns-clause-opens
 returns-clause-opens c =
     let world = c.in_ok-world.world in
     let made = c.in_ok-world.ensures in
-    let after : Company = record {
-      opening = world.opening.items;
-      settings = c.args.settings;
-      words = world.words.items;
-      history = history_of world.history.items;
-      crew = c.in_ok-crew.crew.items;
-    } in
+    let after : Company = company_of world.opening.items world.words.items world.history.items c.args.settings c.in_ok-crew.crew.items in
     opened_shows after c.in_ok-crew.ensures.each (rw made.history refl) (rw made.opening (made.opens c.args.settings)) (rw made.opening (made.safe c.args.settings refl))

@@ -1,10 +1,10 @@
 use Rattle.std.proofs.Common.{◌≡◌, List, Option, Some, sym, refl, subst, ap, ◌∙◌, ◌<◌}
-use Rattle.opacity.specs.Plain.{IsCrew, history_of}
+use Rattle.opacity.specs.Plain.{IsCrew}
 use Rattle.stm_core.specs.Machine.{Machine, next_of}
 use Rattle.stm_core.specs.declared.next.Next.TheVariants.{Access as ToAccess}
 use Rattle.stm_model.specs.Shown.{shown_by}
 use Rattle.stm_model.specs.World.{IsCaller, Steps, World}
-use Rattle.world_run.specs.Company.{Company, Happens, Shows, attempt_in, terms_in, left_of}
+use Rattle.world_run.specs.Company.{Company, Happens, Shows, attempt_in, terms_in, left_of, company_of}
 use Rattle.world_run.proofs.Nexts.{makes_access}
 use Rattle.stm_model.specs.Accesses.{packed}
 use Rattle.world_run.proofs.Steps.{tells}
@@ -42,20 +42,8 @@ invariant_of-self c =
     let caller = subst (λ (v : Company). IsCaller (terms_in v) c.args.caller) (sym c.self.view_is) c.requires.caller in
     let next = subst (λ (v : Company). next_of (attempt_in v c.args.caller) ≡ Some (ToAccess c.args.access)) (sym c.self.view_is) c.requires.next in
     let makes = makes_access _ _ next in
-    let before : Company = record {
-      opening = world.opening.items;
-      settings = c.self.inside.settings;
-      words = world.words.items;
-      history = history_of world.history.items;
-      crew = c.self.inside.crew.items;
-    } in
-    let after : Company = record {
-      opening = c.act-found.new.self.opening.items;
-      settings = c.self.inside.settings;
-      words = c.act-found.new.self.words.items;
-      history = history_of c.act-found.new.self.history.items;
-      crew = c.take.new.crew.items;
-    } in
+    let before : Company = company_of world.opening.items world.words.items world.history.items c.self.inside.settings c.self.inside.crew.items in
+    let after : Company = company_of c.act-found.new.self.opening.items c.act-found.new.self.words.items c.act-found.new.self.history.items c.self.inside.settings c.take.new.crew.items in
     let history : after.history ≡ before.history = rw c.act-found.ensures.history refl in
     rw (c.act-found.ensures.callers, c.act-found.ensures.limit)
     (stands_on before _ _ c.self.invariant c.args.caller caller makes.act makes.next after after.crew c.act-found.result (rw makes.access c.act-found.ensures.found)
@@ -72,20 +60,8 @@ returns-clause-happens c =
     let caller = subst (λ (v : Company). IsCaller (terms_in v) c.args.caller) (sym c.self.view_is) c.requires.caller in
     let next = subst (λ (v : Company). next_of (attempt_in v c.args.caller) ≡ Some (ToAccess c.args.access)) (sym c.self.view_is) c.requires.next in
     let makes = makes_access _ _ next in
-    let before : Company = record {
-      opening = world.opening.items;
-      settings = c.self.inside.settings;
-      words = world.words.items;
-      history = history_of world.history.items;
-      crew = c.self.inside.crew.items;
-    } in
-    let after : Company = record {
-      opening = c.act-found.new.self.opening.items;
-      settings = c.self.inside.settings;
-      words = c.act-found.new.self.words.items;
-      history = history_of c.act-found.new.self.history.items;
-      crew = c.take.new.crew.items;
-    } in
+    let before : Company = company_of world.opening.items world.words.items world.history.items c.self.inside.settings c.self.inside.crew.items in
+    let after : Company = company_of c.act-found.new.self.opening.items c.act-found.new.self.words.items c.act-found.new.self.history.items c.self.inside.settings c.take.new.crew.items in
     let history : after.history ≡ before.history = rw c.act-found.ensures.history refl in
     subst (λ (v : Company). Happens v (Steps c.args.caller) after) c.self.view_is
     (steps before _ _ c.self.invariant c.args.caller caller makes.act makes.next after after.crew c.act-found.result (rw makes.access c.act-found.ensures.found)
@@ -99,11 +75,5 @@ returns-clause-happens c =
 pub returns-clause-falls : goal.returns-clause-falls
 returns-clause-falls c =
     let caller = subst (λ (v : Company). IsCaller (terms_in v) c.args.caller) (sym c.self.view_is) c.requires.caller in
-    let after : Company = record {
-      opening = c.act-found.new.self.opening.items;
-      settings = c.self.inside.settings;
-      words = c.act-found.new.self.words.items;
-      history = history_of c.act-found.new.self.history.items;
-      crew = c.take.new.crew.items;
-    } in
+    let after : Company = company_of c.act-found.new.self.opening.items c.act-found.new.self.words.items c.act-found.new.self.history.items c.self.inside.settings c.take.new.crew.items in
     subst (λ (v : Company). left_of after c.args.caller < left_of v c.args.caller) c.self.view_is (took_falls _ _ _ c.self.invariant c.args.caller caller after.crew c.act-found.result c.take.ensures)
