@@ -9,7 +9,7 @@ use std::collections::BTreeSet;
 use std::test::Fail;
 use stm_core::{Next, Reply};
 use stm_model::{Access, Addr, Ask, Ending, Policy, Settings, Word};
-use world_run::Company;
+use world_run::Simulation;
 
 // Both cells hold 1 at first.
 const OPENING: [u64; 2] = [1, 1];
@@ -80,10 +80,10 @@ impl Actor {
     }
 }
 
-// A company of two callers, with their scripts.
+// A simulation of two callers, with their scripts.
 #[derive(Drop)]
 struct Pair {
-    company: Company,
+    simulation: Simulation,
     first: Actor,
     second: Actor,
 }
@@ -91,7 +91,7 @@ struct Pair {
 // Both attempts are begun, before their first access.
 fn opened(alloc: Global, policy: Policy, scripts: (Script, Script)) -> Result<Pair, Fail>
     requires { looks policy ≤ 100 }
-    ensures { IfOk result (λ pair. pair.company.settings.callers ≡ 2) }
+    ensures { IfOk result (λ pair. pair.simulation.settings.callers ≡ 2) }
 {
     let settings = Settings {
         callers: 2,
@@ -100,25 +100,25 @@ fn opened(alloc: Global, policy: Policy, scripts: (Script, Script)) -> Result<Pa
         clock: 9,
         attempts: 1,
     };
-    let mut company = Company::new(alloc, settings, &OPENING)?;
-    company.begin(1);
-    company.begin(2);
+    let mut simulation = Simulation::new(alloc, settings, &OPENING)?;
+    simulation.begin(1);
+    simulation.begin(2);
     Ok(Pair {
-        company,
+        simulation,
         first: Actor::new(alloc, false, scripts.0),
         second: Actor::new(alloc, true, scripts.1),
     })
 }
 
 // The word that the access goes to, as it stands.
-fn word_at(company: &Company, word: Word) -> Option<u64> {
+fn word_at(simulation: &Simulation, word: Word) -> Option<u64> {
     let place = match word {
         Word::Clock => 0,
         Word::Status(caller) => caller as usize,
         Word::Meta(addr) => 3 + 2 * addr.0 as usize,
         Word::Value(addr) => 4 + 2 * addr.0 as usize,
     };
-    company.world().words.get(place).copied()
+    simulation.world().words.get(place).copied()
 }
 
 fn target(access: Access) -> Word {
@@ -133,12 +133,12 @@ fn target(access: Access) -> Word {
 }
 
 // Takes the reply of an attempt that waits to be asked, and asks it. Tells whether it waited.
-fn ask_once(company: &mut Company, actor: &mut Actor) -> Result<bool, Fail>
-    requires { company.old.settings.callers ≡ 2 }
-    ensures { company.new.settings.callers ≡ 2 }
+fn ask_once(simulation: &mut Simulation, actor: &mut Actor) -> Result<bool, Fail>
+    requires { simulation.old.settings.callers ≡ 2 }
+    ensures { simulation.new.settings.callers ≡ 2 }
 {
     let caller = actor.caller();
-    let ask = match company.next(caller) {
+    let ask = match simulation.next(caller) {
         Some(Next::Reply(Reply::Ready)) => actor.next_ask(),
         Some(Next::Reply(Reply::Value(value))) => {
             actor.values.push(value)?;
@@ -148,16 +148,16 @@ fn ask_once(company: &mut Company, actor: &mut Actor) -> Result<bool, Fail>
         _ => return Ok(false),
     };
     actor.asked = actor.asked.wrapping_add(1);
-    Ok(company.ask(caller, ask))
+    Ok(simulation.ask(caller, ask))
 }
 
 // Asks an attempt until it goes on by itself.
-fn ask_on(company: &mut Company, actor: &mut Actor) -> Result<(), Fail>
-    requires { company.old.settings.callers ≡ 2 }
-    ensures { company.new.settings.callers ≡ 2 }
+fn ask_on(simulation: &mut Simulation, actor: &mut Actor) -> Result<(), Fail>
+    requires { simulation.old.settings.callers ≡ 2 }
+    ensures { simulation.new.settings.callers ≡ 2 }
 {
     for _ in 0..4 {
-        if !ask_once(company, actor)? {
+        if !ask_once(simulation, actor)? {
             return Ok(());
         }
     }
@@ -165,41 +165,41 @@ fn ask_on(company: &mut Company, actor: &mut Actor) -> Result<(), Fail>
 }
 
 // Makes the next access of an actor, or its ring. Tells whether there was one.
-fn turn(company: &mut Company, actor: &mut Actor) -> Result<bool, Fail>
-    requires { company.old.settings.callers ≡ 2 }
-    ensures { company.new.settings.callers ≡ 2 }
+fn turn(simulation: &mut Simulation, actor: &mut Actor) -> Result<bool, Fail>
+    requires { simulation.old.settings.callers ≡ 2 }
+    ensures { simulation.new.settings.callers ≡ 2 }
 {
     let caller = actor.caller();
-    let found = match company.next(caller) {
-        Some(Next::Access(access)) => word_at(company, target(access)),
-        Some(Next::Decide { .. }) => word_at(company, Word::Clock),
+    let found = match simulation.next(caller) {
+        Some(Next::Access(access)) => word_at(simulation, target(access)),
+        Some(Next::Decide { .. }) => word_at(simulation, Word::Clock),
         Some(Next::Ring(_)) => None,
         _ => return Ok(false),
     };
-    company.advance(caller)?;
+    simulation.advance(caller)?;
     if let Some(word) = found {
         actor.found.push(word)?;
     }
-    ask_on(company, actor)?;
+    ask_on(simulation, actor)?;
     Ok(true)
 }
 
 impl Pair {
     fn turn(&mut self, second: bool) -> Result<bool, Fail>
-        requires { self.old.company.settings.callers ≡ 2 }
-        ensures { self.new.company.settings.callers ≡ 2 }
+        requires { self.old.simulation.settings.callers ≡ 2 }
+        ensures { self.new.simulation.settings.callers ≡ 2 }
     {
         if second {
-            turn(&mut self.company, &mut self.second)
+            turn(&mut self.simulation, &mut self.second)
         } else {
-            turn(&mut self.company, &mut self.first)
+            turn(&mut self.simulation, &mut self.first)
         }
     }
 
     // What tells states apart: the words of the table, and what each attempt's accesses have found, since an
     // attempt is what these made of it.
     fn state(&self, alloc: Global) -> Result<Vec<u64>, Fail> {
-        let mut state = Vec::from_slice(alloc, &self.company.world().words)?;
+        let mut state = Vec::from_slice(alloc, &self.simulation.world().words)?;
         state.push(self.first.found.len() as u64)?;
         state.extend_from_slice(&self.first.found)?;
         state.extend_from_slice(&self.second.found)?;
@@ -207,13 +207,13 @@ impl Pair {
     }
 
     fn value(&self, cell: u32) -> Option<u64> {
-        word_at(&self.company, Word::Value(Addr(cell)))
+        word_at(&self.simulation, Word::Value(Addr(cell)))
     }
 
     fn ending(&self, second: bool) -> Option<Ending>
-        requires { self.now.company.settings.callers ≡ 2 }
+        requires { self.now.simulation.settings.callers ≡ 2 }
     {
-        match self.company.next(if second { 2 } else { 1 }) {
+        match self.simulation.next(if second { 2 } else { 1 }) {
             Some(Next::Reply(Reply::Ended(ending))) => Some(ending),
             _ => None,
         }
@@ -228,7 +228,7 @@ fn replayed(
     schedule: &[bool],
 ) -> Result<Pair, Fail>
     requires { looks policy ≤ 100 }
-    ensures { IfOk result (λ pair. pair.company.settings.callers ≡ 2) }
+    ensures { IfOk result (λ pair. pair.simulation.settings.callers ≡ 2) }
 {
     let mut pair = opened(alloc, policy, scripts)?;
     for second in schedule {
@@ -303,7 +303,7 @@ fn is_committed(ending: Option<Ending>) -> bool {
 fn ends_with(reached: &Reached, writers: usize) -> usize {
     let mut count = 0usize;
     for end in &reached.ends {
-        if end.pair.company.world().history.len() == writers {
+        if end.pair.simulation.world().history.len() == writers {
             count = count.wrapping_add(1);
         }
     }
@@ -331,7 +331,7 @@ fn no_update_is_lost(rt: HostRuntime) -> Result<(), Fail> {
         let reached = explore(rt.alloc(), policy, (Script::AddOne, Script::AddOne))?;
         assert!(rt; reached.whole);
         for end in &reached.ends {
-            let committed = end.pair.company.world().history.len() as u64;
+            let committed = end.pair.simulation.world().history.len() as u64;
             assert_eq!(rt; end.pair.value(0), Some(committed.wrapping_add(1)));
             assert!(rt; end.endings.0.is_some() && end.endings.1.is_some());
         }
@@ -347,7 +347,7 @@ fn no_sum_is_skewed(rt: HostRuntime) -> Result<(), Fail> {
         let reached = explore(rt.alloc(), policy, (Script::PutSum(0), Script::PutSum(1)))?;
         assert!(rt; reached.whole);
         for End { pair, .. } in &reached.ends {
-            let (zero, one) = sums_in_order(&pair.company.world().history);
+            let (zero, one) = sums_in_order(&pair.simulation.world().history);
             assert_eq!(rt; (pair.value(0), pair.value(1)), (Some(zero), Some(one)));
         }
         assert!(rt; ends_with(&reached, 2) > 0);

@@ -11,8 +11,8 @@ use Rattle.stm_model.specs.declared.cause.Addr.{Addr}
 use Rattle.stm_model.specs.declared.cause.Cause.TheVariants.{Stale}
 use Rattle.stm_model.specs.declared.note.Note.{Note}
 use Rattle.stm_model.specs.Accesses.{access_of, answer_of, meta_of_cell, next_access, next_at, released, value_of_cell}
-use Rattle.stm_model.specs.After.{after_at, after_word, at, check_on, checked, decided, mark_on, prepared, release_on, ring_if, rolled, store_on}
-use Rattle.stm_model.specs.Attempt.{Attempt, Decide, Due, Prepare, Sample, Write}
+use Rattle.stm_model.specs.After.{after_at, after_word, at, validate_on, note_validated, decided, mark_on, prepared, release_on, ring_if, rolled, store_on}
+use Rattle.stm_model.specs.Attempt.{Attempt, Decide, Due, Prepare, CommitClock, Write}
 
 -- What is due, and what was rung, is none of a commit's concern.
 pub whatever-due : (op : CommitOp) (rung : Option Addr) (t : Attempt) (dues : List Due) → IsCommitting op t → IsCommitting (record op { rung = rung }) (record t { due = dues })
@@ -24,8 +24,8 @@ module _ (t : Attempt) (nothing : t.due ≡ []) where
   takes-status word = rw nothing refl
 
   pub takes-clock : (lost word writes : ℕ) (dues : List Due) → dues ≡ [] →
-      after_word (at (in_preparation t) (Sample lost)) word ≡ check_on (in_preparation (record t { due = dues })) lost word (drop (writes - writes) t.notes)
-  unfolding next_at after_at answer_of check_on
+      after_word (at (in_preparation t) (CommitClock lost)) word ≡ validate_on (in_preparation (record t { due = dues })) lost word (drop (writes - writes) t.notes)
+  unfolding next_at after_at answer_of validate_on
   takes-clock lost word writes dues none =
       let all : writes - writes ≡ 0 = omega arith in
       rw (nothing, none, all) refl
@@ -65,18 +65,18 @@ module _ (t : Attempt) (nothing : t.due ≡ []) (index : ℕ) (write : Write) (h
 
 -- at a note of what was read
 module _ (t : Attempt) (nothing : t.due ≡ []) (lost clock index writes : ℕ) (note : Note) (here : drop (index - writes) t.notes ≡ note ∷ drop (index + 1 - writes) t.notes) where
-  pub looks-at : next_access (check_on (in_preparation t) lost clock (drop (index - writes) t.notes)) ≡ Some (Load (MetaOf note.addr))
-  unfolding next_at access_of check_on
+  pub looks-at : next_access (validate_on (in_preparation t) lost clock (drop (index - writes) t.notes)) ≡ Some (Load (MetaOf note.addr))
+  unfolding next_at access_of validate_on
   looks-at = rw here (rw nothing refl)
 
   pub goes-checking : (word : ℕ) (dues : List Due) → dues ≡ [] → still_has t.own note.version (meta_of word) ≡ true →
-      after_word (check_on (in_preparation t) lost clock (drop (index - writes) t.notes)) word
-      ≡ check_on (in_preparation (record t { due = dues })) lost clock (drop (index + 1 - writes) t.notes)
-  unfolding next_at after_at answer_of check_on checked
+      after_word (validate_on (in_preparation t) lost clock (drop (index - writes) t.notes)) word
+      ≡ validate_on (in_preparation (record t { due = dues })) lost clock (drop (index + 1 - writes) t.notes)
+  unfolding next_at after_at answer_of validate_on note_validated
   goes-checking word dues none still = rw here (rw (nothing, none, still) refl)
 
   pub ends-stale : (word : ℕ) → still_has t.own note.version (meta_of word) ≡ false →
-      after_word (check_on (in_preparation t) lost clock (drop (index - writes) t.notes)) word
+      after_word (validate_on (in_preparation t) lost clock (drop (index - writes) t.notes)) word
       ≡ rolled (record (in_preparation t) { due = [] }) (Stale note.addr note.version (meta_of word))
-  unfolding next_at after_at answer_of check_on checked
+  unfolding next_at after_at answer_of validate_on note_validated
   ends-stale word stale = rw here (rw (nothing, stale) refl)

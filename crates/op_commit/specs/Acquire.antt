@@ -9,12 +9,12 @@ use Rattle.op_commit.specs.declared.acquire.AcquireEnd.{AcquireEnd}
 use Rattle.op_commit.specs.declared.acquire.AcquireEnd.TheVariants.{Bad, Owned}
 use Rattle.op_commit.specs.declared.acquire.AcquireOp.{AcquireOp}
 use Rattle.op_commit.specs.declared.acquire.AcquirePlace.{AcquirePlace}
-use Rattle.op_commit.specs.declared.acquire.AcquirePlace.TheVariants.{DoomOwner as AtDoomOwner, Ended, Exchange, FirstLook, SeeAgain as AtSeeAgain, SeeOwner as AtSeeOwner}
+use Rattle.op_commit.specs.declared.acquire.AcquirePlace.TheVariants as at_acquire
 use Rattle.stm_model.specs.declared.cause.Cause.{Cause}
 use Rattle.stm_model.specs.declared.cause.Cause.TheVariants.{Moved, Stale, WriteConflict}
 use Rattle.stm_model.specs.declared.note.Note.{Note}
-use Rattle.stm_model.specs.After.{at, done, note_of, stopped, take_again, taken}
-use Rattle.stm_model.specs.Attempt.{Acquire, Attempt, DoomOwner, Own, SeeAgain, SeeOwner}
+use Rattle.stm_model.specs.After.{at, done, note_of, stopped, acquire_again, doom_or_again}
+use Rattle.stm_model.specs.Attempt.{AcquireMeta, Attempt, DoomOwner, Acquire, OwnerMeta, OwnerStatus}
 use Rattle.stm_model.specs.Evidence.{HasMoved, IsEvident}
 use Rattle.stm_model.specs.Heap.{put}
 use Rattle.stm_model.specs.Safe.{IsFree}
@@ -32,12 +32,12 @@ acquiring_end t cell value (Owned meta) = wrote t cell value
 acquiring_end t cell value (Bad cause) = stopped t cause
 
 abbrev pub acquiring_at : AcquireOp → (value : ℕ) → Attempt → AcquirePlace → Attempt
-acquiring_at op value t FirstLook = at t (Acquire op.addr.0 value (rounds_left op) op.doom_tried)
-acquiring_at op value t (Exchange first expected again) = at t (Own op.addr.0 value (rounds_left op) op.doom_tried first expected again)
-acquiring_at op value t (AtSeeOwner first) = at t (SeeOwner op.addr.0 value (rounds_left op) first)
-acquiring_at op value t (AtSeeAgain first status) = at t (SeeAgain op.addr.0 value (rounds_left op) first status)
-acquiring_at op value t (AtDoomOwner first second status) = at t (DoomOwner op.addr.0 value (rounds_left op) first second status)
-acquiring_at op value t (Ended end) = acquiring_end t op.addr.0 value end
+acquiring_at op value t at_acquire.AcquireMeta = at t (AcquireMeta op.addr.0 value (rounds_left op) op.doom_tried)
+acquiring_at op value t (at_acquire.Acquire first expected again) = at t (Acquire op.addr.0 value (rounds_left op) op.doom_tried first expected again)
+acquiring_at op value t (at_acquire.OwnerStatus first) = at t (OwnerStatus op.addr.0 value (rounds_left op) first)
+acquiring_at op value t (at_acquire.OwnerMeta first status) = at t (OwnerMeta op.addr.0 value (rounds_left op) first status)
+acquiring_at op value t (at_acquire.DoomOwner first second status) = at t (DoomOwner op.addr.0 value (rounds_left op) first second status)
+acquiring_at op value t (at_acquire.Ended end) = acquiring_end t op.addr.0 value end
 
 -- the attempt that this one is while the first write of this value stands so
 abbrev pub acquiring : AcquireOp → (value : ℕ) → Attempt → Attempt
@@ -56,16 +56,16 @@ pub record IsAcquiring (op : AcquireOp) (t : Attempt) : Type 0 where
 
 -- The words that it is to exchange have room for their fields.
 abbrev pub WordFits : AcquirePlace → Type 0
-WordFits (Exchange first expected again) = MetaFits expected
-WordFits (AtSeeAgain first status) = StatusFits status
-WordFits (AtDoomOwner first second status) = StatusFits status
+WordFits (at_acquire.Acquire first expected again) = MetaFits expected
+WordFits (at_acquire.OwnerMeta first status) = StatusFits status
+WordFits (at_acquire.DoomOwner first second status) = StatusFits status
 WordFits _ = Unit {0}
 
 -- A doom counts as tried from the look at the owner on.
 abbrev pub IsCounted : AcquirePlace → (tried : Bool) → Type 0
-IsCounted (AtSeeOwner first) tried = tried ≡ true
-IsCounted (AtSeeAgain first status) tried = tried ≡ true
-IsCounted (AtDoomOwner first second status) tried = tried ≡ true
+IsCounted (at_acquire.OwnerStatus first) tried = tried ≡ true
+IsCounted (at_acquire.OwnerMeta first status) tried = tried ≡ true
+IsCounted (at_acquire.DoomOwner first second status) tried = tried ≡ true
 IsCounted place tried = Unit {0}
 
 -- The caller's number, the rounds and the words that it keeps are within their bounds, and a doom is counted.
@@ -77,7 +77,7 @@ pub record IsWithin (op : AcquireOp) : Type 0 where
   pub doom : IsCounted op.place op.doom_tried
 
 abbrev pub end_at : AcquirePlace → Option AcquireEnd
-end_at (Ended end) = Some end
+end_at (at_acquire.Ended end) = Some end
 end_at _ = None
 
 abbrev pub end_of_acquire : AcquireOp → Option AcquireEnd
@@ -87,18 +87,18 @@ end_of_acquire op = end_at op.place
 abbrev pub met : Attempt → (cell value left : ℕ) → (tried : Bool) → Meta → Attempt
 met t cell value left tried first =
     if owned_by_another t.own first
-    then taken t cell value left tried first
-    else take_again t cell value left tried first first
+    then doom_or_again t cell value left tried first
+    else acquire_again t cell value left tried first first
 
 -- how many accesses may follow, with so many rounds behind this one
 abbrev pub left_at : AcquirePlace → ℕ → ℕ
-left_at FirstLook left = 4 * left + 4
-left_at (AtSeeOwner first) left = 4 * left + 3
-left_at (AtSeeAgain first status) left = 4 * left + 2
-left_at (AtDoomOwner first second status) left = 4 * left + 1
-left_at (Exchange first expected true) left = 4 * left + 1
-left_at (Exchange first expected again) left = 4 * left + 2
-left_at (Ended end) left = 0
+left_at at_acquire.AcquireMeta left = 4 * left + 4
+left_at (at_acquire.OwnerStatus first) left = 4 * left + 3
+left_at (at_acquire.OwnerMeta first status) left = 4 * left + 2
+left_at (at_acquire.DoomOwner first second status) left = 4 * left + 1
+left_at (at_acquire.Acquire first expected true) left = 4 * left + 1
+left_at (at_acquire.Acquire first expected again) left = 4 * left + 2
+left_at (at_acquire.Ended end) left = 0
 
 abbrev pub accesses_left : AcquireOp → ℕ
 accesses_left op = left_at op.place (rounds_left op)
@@ -130,17 +130,17 @@ KeepsPending expected found = expected.version ≡ found.version → IsTrue expe
 
 -- The access finds a word of a safe world. A status word may be any.
 abbrev pub IsOfSafeWorld : AcquirePlace → (own answer : ℕ) → Type 0
-IsOfSafeWorld FirstLook own answer = IsOfSafeCell own (meta_of answer)
-IsOfSafeWorld (Exchange first expected again) own answer = IsOfSafeCell own (meta_of answer) × KeepsPending expected (meta_of answer)
-IsOfSafeWorld (AtSeeAgain first status) own answer = IsOfSafeCell own (meta_of answer)
+IsOfSafeWorld at_acquire.AcquireMeta own answer = IsOfSafeCell own (meta_of answer)
+IsOfSafeWorld (at_acquire.Acquire first expected again) own answer = IsOfSafeCell own (meta_of answer) × KeepsPending expected (meta_of answer)
+IsOfSafeWorld (at_acquire.OwnerMeta first status) own answer = IsOfSafeCell own (meta_of answer)
 IsOfSafeWorld place own answer = Unit {0}
 
 -- What it knows by the words that it found there: the word that it exchanges is nobody's, and the owner that it looks at is another.
 abbrev pub KnowsAt : AcquirePlace → (own : ℕ) → Type 0
-KnowsAt (Exchange first expected again) own = IsFree first expected again
-KnowsAt (AtSeeOwner first) own = IsTrue (owned_by_another own first)
-KnowsAt (AtSeeAgain first status) own = IsTrue (owned_by_another own first)
-KnowsAt (AtDoomOwner first second status) own = IsTrue (owned_by_another own first) × IsTrue (owned_by_another own second)
+KnowsAt (at_acquire.Acquire first expected again) own = IsFree first expected again
+KnowsAt (at_acquire.OwnerStatus first) own = IsTrue (owned_by_another own first)
+KnowsAt (at_acquire.OwnerMeta first status) own = IsTrue (owned_by_another own first)
+KnowsAt (at_acquire.DoomOwner first second status) own = IsTrue (owned_by_another own first) × IsTrue (owned_by_another own second)
 KnowsAt place own = Unit {0}
 
 -- The words that a first write keeps are those of a safe world: the one that it exchanges is nobody's, an owner that it looks at is another.

@@ -5,25 +5,25 @@ use Rattle.meta_word.specs.declared.status.TheConstants.{MAX_SERIAL}
 use Rattle.op_commit.specs.declared.back.BackEnd.{BackEnd}
 use Rattle.op_commit.specs.declared.back.BackOp.{BackOp}
 use Rattle.op_commit.specs.declared.back.BackPlace.{BackPlace}
-use Rattle.op_commit.specs.declared.back.BackPlace.TheVariants.{Cell, Ended as AtEnd}
+use Rattle.op_commit.specs.declared.back.BackPlace.TheVariants as at_back
 use Rattle.op_commit.specs.Buffered.{ring_for}
 use Rattle.stm_model.specs.declared.cause.Addr.{Addr}
 use Rattle.stm_model.specs.declared.note.Note.{Note}
-use Rattle.stm_model.specs.After.{at, final_runs, give_back_on, roll_on, run_all}
+use Rattle.stm_model.specs.After.{at, final_runs, release_level_on, roll_on, run_all}
 use Rattle.stm_model.specs.Attempt.{Attempt, Due, Ended}
 
 abbrev pub backing_at : BackPlace → (first : ℕ) → (whole : Bool) → Attempt → Attempt
-backing_at (Cell index) first true t = roll_on t (drop index t.now.writes)
-backing_at (Cell index) first false t = give_back_on t (take first t.now.writes) (drop index t.now.writes)
-backing_at (AtEnd end) first true t = at (record t { phase = Idle }) Ended
-backing_at (AtEnd end) first false t = give_back_on t (take first t.now.writes) []
+backing_at (at_back.Cell index) first true t = roll_on t (drop index t.now.writes)
+backing_at (at_back.Cell index) first false t = release_level_on t (take first t.now.writes) (drop index t.now.writes)
+backing_at (at_back.Ended end) first true t = at (record t { phase = Idle }) Ended
+backing_at (at_back.Ended end) first false t = release_level_on t (take first t.now.writes) []
 
 -- the attempt that this one is while the way back stands so
 abbrev pub backing : BackOp → Attempt → Attempt
 backing op = backing_at op.place op.first op.whole
 
 abbrev pub due_at : BackPlace → (whole : Bool) → Option Addr → Attempt → List Due
-due_at (AtEnd end) true rung t = ring_for rung ++ run_all (final_runs t.ending t.now.hooks)
+due_at (at_back.Ended end) true rung t = ring_for rung ++ run_all (final_runs t.ending t.now.hooks)
 due_at place whole rung t = ring_for rung
 
 -- what has come due by the last access: a ring where the pending bit was found, and at the end of the attempt its last handlers
@@ -37,9 +37,9 @@ pub record IsBacking (op : BackOp) (t : Attempt) : Type 0 where
 
 -- It stands at one of the cells, or behind the last one where the attempt ends.
 abbrev pub IsInPlace : BackPlace → (whole : Bool) → List Note → Type 0
-IsInPlace (Cell index) true notes = index ≤ length notes
-IsInPlace (Cell index) false notes = index < length notes
-IsInPlace (AtEnd end) whole notes = Unit {0}
+IsInPlace (at_back.Cell index) true notes = index ≤ length notes
+IsInPlace (at_back.Cell index) false notes = index < length notes
+IsInPlace (at_back.Ended end) whole notes = Unit {0}
 
 -- It goes along these notes, and the attempt's number is within its bounds.
 pub record IsAlong (op : BackOp) (notes : List Note) : Type 0 where
@@ -47,7 +47,7 @@ pub record IsAlong (op : BackOp) (notes : List Note) : Type 0 where
   pub place : IsInPlace op.place op.whole notes
 
 abbrev pub end_at : BackPlace → Option BackEnd
-end_at (AtEnd end) = Some end
+end_at (at_back.Ended end) = Some end
 end_at _ = None
 
 abbrev pub end_of_back : BackOp → Option BackEnd
@@ -55,8 +55,8 @@ end_of_back op = end_at op.place
 
 -- how many accesses follow, over so many buffered cells
 abbrev pub left_at : BackPlace → (whole : Bool) → (writes : ℕ) → ℕ
-left_at (Cell index) whole writes = writes - index + (if whole then 1 else 0)
-left_at (AtEnd end) whole writes = 0
+left_at (at_back.Cell index) whole writes = writes - index + (if whole then 1 else 0)
+left_at (at_back.Ended end) whole writes = 0
 
 abbrev pub accesses_left : BackOp → (writes : ℕ) → ℕ
 accesses_left op = left_at op.place op.whole

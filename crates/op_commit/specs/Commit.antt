@@ -11,7 +11,7 @@ use Rattle.op_commit.specs.declared.commit.CommitEnd.{CommitEnd}
 use Rattle.op_commit.specs.declared.commit.CommitEnd.TheVariants.{Bad, Decided, Prepared, Stamp}
 use Rattle.op_commit.specs.declared.commit.CommitOp.{CommitOp}
 use Rattle.op_commit.specs.declared.commit.CommitPlace.{CommitPlace}
-use Rattle.op_commit.specs.declared.commit.CommitPlace.TheVariants.{Check as AtCheck, Close as AtClose, Decide as AtDecide, Ended as AtEnd, Mark as AtMark, Prepare as AtPrepare, Release as AtRelease, Sample as AtSample, Store as AtStore}
+use Rattle.op_commit.specs.declared.commit.CommitPlace.TheVariants as at_commit
 use Rattle.op_commit.specs.Buffered.{buffered, ring_for}
 use Rattle.stm_model.specs.declared.cause.Addr.{Addr}
 use Rattle.stm_model.specs.declared.cause.Cause.{Cause}
@@ -20,8 +20,8 @@ use Rattle.stm_model.specs.declared.ending.Ending.TheVariants.{Committed}
 use Rattle.stm_model.specs.declared.note.Note.{Note}
 use Rattle.stm_model.specs.declared.settings.Settings.{Settings}
 use Rattle.stm_model.specs.Accesses.{active}
-use Rattle.stm_model.specs.After.{same_status, at, check_on, mark_on, release_on, rolled, run_all, store_on}
-use Rattle.stm_model.specs.Attempt.{Attempt, Close, Decide, Due, Ended, Prepare, Sample}
+use Rattle.stm_model.specs.After.{same_status, at, validate_on, mark_on, release_on, rolled, run_all, store_on}
+use Rattle.stm_model.specs.Attempt.{Attempt, Close, Decide, Due, Ended, Prepare, CommitClock}
 use Rattle.stm_model.specs.Evidence.{Evidence}
 use Rattle.stm_model.specs.Handlers.{after_commit, committing as runs_at_decision, preparing as runs_before}
 
@@ -51,24 +51,24 @@ committing_end (Stamp stamp) t = at (record (stamped t stamp) { phase = Idle }) 
 committing_end (Bad cause prefix) t = rolled (record t { phase = phase_refused cause t.phase; prefix = unwrap_or prefix t.prefix }) cause
 
 abbrev pub committing_at : CommitPlace → (writes : ℕ) → Attempt → Attempt
-committing_at AtPrepare writes t = at t Prepare
-committing_at (AtMark index) writes t = mark_on (in_preparation t) (drop index t.now.writes)
-committing_at (AtSample lost) writes t = at (in_preparation t) (Sample lost)
-committing_at (AtCheck lost clock index) writes t = check_on (in_preparation t) lost clock (drop (index - writes) t.notes)
-committing_at (AtDecide lost clock) writes t = at (in_preparation t) (Decide lost clock)
-committing_at (AtStore stamp index) writes t = store_on (stamped t stamp) (drop index t.now.writes)
-committing_at (AtRelease stamp index) writes t = release_on (stamped t stamp) (drop index t.now.writes)
-committing_at (AtClose stamp) writes t = at (stamped t stamp) Close
-committing_at (AtEnd end) writes t = committing_end end t
+committing_at at_commit.Prepare writes t = at t Prepare
+committing_at (at_commit.Mark index) writes t = mark_on (in_preparation t) (drop index t.now.writes)
+committing_at (at_commit.CommitClock lost) writes t = at (in_preparation t) (CommitClock lost)
+committing_at (at_commit.CommitNote lost clock index) writes t = validate_on (in_preparation t) lost clock (drop (index - writes) t.notes)
+committing_at (at_commit.Decide lost clock) writes t = at (in_preparation t) (Decide lost clock)
+committing_at (at_commit.StoreValues stamp index) writes t = store_on (stamped t stamp) (drop index t.now.writes)
+committing_at (at_commit.Release stamp index) writes t = release_on (stamped t stamp) (drop index t.now.writes)
+committing_at (at_commit.Close stamp) writes t = at (stamped t stamp) Close
+committing_at (at_commit.Ended end) writes t = committing_end end t
 
 -- the attempt that this one is while the commit stands so
 abbrev pub committing : CommitOp → Attempt → Attempt
 committing op = committing_at op.place op.writes
 
 abbrev pub due_at : CommitPlace → Option Addr → Attempt → List Due
-due_at (AtEnd Prepared) rung t = ring_for rung ++ run_all (runs_before t.now.hooks)
-due_at (AtEnd (Decided stamp)) rung t = ring_for rung ++ run_all (runs_at_decision t.now.hooks)
-due_at (AtEnd (Stamp stamp)) rung t = ring_for rung ++ run_all (after_commit t.now.hooks)
+due_at (at_commit.Ended Prepared) rung t = ring_for rung ++ run_all (runs_before t.now.hooks)
+due_at (at_commit.Ended (Decided stamp)) rung t = ring_for rung ++ run_all (runs_at_decision t.now.hooks)
+due_at (at_commit.Ended (Stamp stamp)) rung t = ring_for rung ++ run_all (after_commit t.now.hooks)
 due_at place rung t = ring_for rung
 
 -- what has come due by the last access: a ring where the pending bit was found, and handlers at a stop and at the end
@@ -87,13 +87,13 @@ pub record IsCommitting (op : CommitOp) (t : Attempt) : Type 0 where
 
 -- It stands at one of its notes, if at any, and the clock and the stamp are within the limit.
 abbrev pub IsInPlace : CommitPlace → (writes limit count : ℕ) → Type 0
-IsInPlace (AtMark index) writes limit count = index < writes
-IsInPlace (AtCheck lost clock index) writes limit count = (writes ≤ index) × ((index < count) × (clock ≤ limit))
-IsInPlace (AtDecide lost clock) writes limit count = clock < limit
-IsInPlace (AtStore stamp index) writes limit count = (index < writes) × (stamp ≤ limit)
-IsInPlace (AtRelease stamp index) writes limit count = (index < writes) × (stamp ≤ limit)
-IsInPlace (AtClose stamp) writes limit count = stamp ≤ limit
-IsInPlace (AtEnd (Decided stamp)) writes limit count = stamp ≤ limit
+IsInPlace (at_commit.Mark index) writes limit count = index < writes
+IsInPlace (at_commit.CommitNote lost clock index) writes limit count = (writes ≤ index) × ((index < count) × (clock ≤ limit))
+IsInPlace (at_commit.Decide lost clock) writes limit count = clock < limit
+IsInPlace (at_commit.StoreValues stamp index) writes limit count = (index < writes) × (stamp ≤ limit)
+IsInPlace (at_commit.Release stamp index) writes limit count = (index < writes) × (stamp ≤ limit)
+IsInPlace (at_commit.Close stamp) writes limit count = stamp ≤ limit
+IsInPlace (at_commit.Ended (Decided stamp)) writes limit count = stamp ≤ limit
 IsInPlace place writes limit count = Unit {0}
 
 -- It goes along these notes, and all that it keeps is within bounds.
@@ -105,17 +105,17 @@ pub record IsAlong (op : CommitOp) (notes : List Note) : Type 0 where
 
 -- A clock that it loads is within the limit.
 abbrev pub ClockFits : CommitPlace → (limit answer : ℕ) → Type 0
-ClockFits (AtSample lost) limit answer = answer ≤ limit
+ClockFits (at_commit.CommitClock lost) limit answer = answer ≤ limit
 ClockFits place limit answer = Unit {0}
 
 -- It waits for handlers to be run.
 abbrev pub IsStop : CommitPlace → Type 0
-IsStop (AtEnd Prepared) = Unit {0}
-IsStop (AtEnd (Decided stamp)) = Unit {0}
+IsStop (at_commit.Ended Prepared) = Unit {0}
+IsStop (at_commit.Ended (Decided stamp)) = Unit {0}
 IsStop place = ⊥
 
 abbrev pub end_at : CommitPlace → Option CommitEnd
-end_at (AtEnd end) = Some end
+end_at (at_commit.Ended end) = Some end
 end_at place = None
 
 abbrev pub end_of_commit : CommitOp → Option CommitEnd
@@ -128,17 +128,17 @@ abbrev pub rounds : (count writes reads : ℕ) → ℕ
 rounds count writes reads = count * (reads + 2) + (2 * writes + 1)
 
 abbrev pub left_at : CommitPlace → (writes tries reads : ℕ) → ℕ
-left_at AtPrepare writes tries reads = writes + rounds (tries + 1) writes reads + 1
-left_at (AtMark index) writes tries reads = writes - index + rounds (tries + 1) writes reads
-left_at (AtSample lost) writes tries reads = rounds (tries - lost + 1) writes reads
-left_at (AtCheck lost clock index) writes tries reads = rounds (tries - lost) writes reads + (reads + writes - index) + 1
-left_at (AtDecide lost clock) writes tries reads = rounds (tries - lost) writes reads + 1
-left_at (AtStore stamp index) writes tries reads = writes - index + writes + 1
-left_at (AtRelease stamp index) writes tries reads = writes - index + 1
-left_at (AtClose stamp) writes tries reads = 1
-left_at (AtEnd Prepared) writes tries reads = writes + rounds (tries + 1) writes reads
-left_at (AtEnd (Decided stamp)) writes tries reads = 2 * writes + 1
-left_at (AtEnd end) writes tries reads = 0
+left_at at_commit.Prepare writes tries reads = writes + rounds (tries + 1) writes reads + 1
+left_at (at_commit.Mark index) writes tries reads = writes - index + rounds (tries + 1) writes reads
+left_at (at_commit.CommitClock lost) writes tries reads = rounds (tries - lost + 1) writes reads
+left_at (at_commit.CommitNote lost clock index) writes tries reads = rounds (tries - lost) writes reads + (reads + writes - index) + 1
+left_at (at_commit.Decide lost clock) writes tries reads = rounds (tries - lost) writes reads + 1
+left_at (at_commit.StoreValues stamp index) writes tries reads = writes - index + writes + 1
+left_at (at_commit.Release stamp index) writes tries reads = writes - index + 1
+left_at (at_commit.Close stamp) writes tries reads = 1
+left_at (at_commit.Ended Prepared) writes tries reads = writes + rounds (tries + 1) writes reads
+left_at (at_commit.Ended (Decided stamp)) writes tries reads = 2 * writes + 1
+left_at (at_commit.Ended end) writes tries reads = 0
 
 abbrev pub accesses_left : CommitOp → (reads : ℕ) → ℕ
 accesses_left op = left_at op.place op.writes op.tries
@@ -155,7 +155,7 @@ FailureShows op _ = ⊥
 
 -- Where the commit stands at a bad end, the words of its cause show this.
 abbrev pub PlaceShows : CommitOp → CommitPlace → Type 0
-PlaceShows op (AtEnd (Bad cause prefix)) = FailureShows op cause
+PlaceShows op (at_commit.Ended (Bad cause prefix)) = FailureShows op cause
 PlaceShows op place = Unit {0}
 
 -- ---- what a failed commit shows in a safe world
@@ -167,11 +167,11 @@ pub record IsOfOwnAttempt (serial : ℕ) (found : TxnStatus) : Type 0 where
 
 -- The access finds a word of a safe world: its own status, or a clock that has only risen. Other words may be any.
 abbrev pub IsOfSafeWorld : CommitPlace → (serial answer : ℕ) → Type 0
-IsOfSafeWorld AtPrepare serial answer = IsOfOwnAttempt serial (status_of answer)
-IsOfSafeWorld (AtDecide lost clock) serial answer = clock ≤ answer
+IsOfSafeWorld at_commit.Prepare serial answer = IsOfOwnAttempt serial (status_of answer)
+IsOfSafeWorld (at_commit.Decide lost clock) serial answer = clock ≤ answer
 IsOfSafeWorld place serial answer = Unit {0}
 
 -- Where the commit stands at a bad end, the words of its cause are its evidence, for all settings with its limit of the clock.
 abbrev pub PlaceHasEvidence : CommitOp → CommitPlace → Type 0
-PlaceHasEvidence op (AtEnd (Bad cause prefix)) = (settings : Settings) → settings.clock ≡ op.limit → Evidence op.own settings cause
+PlaceHasEvidence op (at_commit.Ended (Bad cause prefix)) = (settings : Settings) → settings.clock ≡ op.limit → Evidence op.own settings cause
 PlaceHasEvidence op place = Unit {0}

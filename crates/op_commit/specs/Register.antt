@@ -2,16 +2,16 @@
 use Rattle.std.specs.Prelude.{ℕ, ◌-◌, ◌<◌, List, length, drop, Option, Some, None}
 use Rattle.op_commit.specs.declared.register.RegisterOp.{RegisterOp}
 use Rattle.op_commit.specs.declared.register.RegisterPlace.{RegisterPlace}
-use Rattle.op_commit.specs.declared.register.RegisterPlace.TheVariants.{Changed as AtChanged, Note as AtNote, Watching as AtWatching}
+use Rattle.op_commit.specs.declared.register.RegisterPlace.TheVariants as at_register
 use Rattle.op_commit.specs.declared.register.WatchEnd.{WatchEnd}
 use Rattle.op_commit.specs.declared.register.WatchEnd.TheVariants.{Changed, Watching as ToWatching}
 use Rattle.stm_model.specs.declared.note.Note.{Note}
 use Rattle.stm_model.specs.Waiting.{SawChange, Waiting, Watching, watch}
 
 abbrev pub registering_at : RegisterPlace → List Note → Waiting
-registering_at (AtNote index) notes = watch (drop index notes)
-registering_at AtWatching notes = Watching
-registering_at (AtChanged note meta) notes = SawChange note meta
+registering_at (at_register.Note index) notes = watch (drop index notes)
+registering_at at_register.Watching notes = Watching
+registering_at (at_register.Changed note meta) notes = SawChange note meta
 
 -- where a caller stands that waits for a change of these
 abbrev pub registering : RegisterOp → List Note → Waiting
@@ -19,23 +19,23 @@ registering op = registering_at op.place
 
 -- It stands at one of the notes, if at any.
 abbrev pub IsAlongAt : RegisterPlace → List Note → Type 0
-IsAlongAt (AtNote index) notes = index < length notes
+IsAlongAt (at_register.Note index) notes = index < length notes
 IsAlongAt place notes = Unit {0}
 
 abbrev pub IsAlong : RegisterOp → List Note → Type 0
 IsAlong op = IsAlongAt op.place
 
 abbrev pub end_at : RegisterPlace → Option WatchEnd
-end_at (AtNote index) = None
-end_at AtWatching = Some ToWatching
-end_at (AtChanged note meta) = Some (Changed note.addr note.version meta)
+end_at (at_register.Note index) = None
+end_at at_register.Watching = Some ToWatching
+end_at (at_register.Changed note meta) = Some (Changed note.addr note.version meta)
 
 abbrev pub end_of_register : RegisterOp → Option WatchEnd
 end_of_register op = end_at op.place
 
 -- how many accesses may follow, over so many notes
 abbrev pub left_at : RegisterPlace → (reads : ℕ) → ℕ
-left_at (AtNote index) reads = reads - index
+left_at (at_register.Note index) reads = reads - index
 left_at place reads = 0
 
 abbrev pub accesses_left : RegisterOp → (reads : ℕ) → ℕ

@@ -9,13 +9,13 @@ ghost use Rattle.meta_word.specs.declared.meta.Meta.{Meta};
 ghost use Rattle.meta_word.specs.declared.meta.TheConstants.{MAX_OWNER};
 ghost use Rattle.stm_model.specs.declared.access.Access.TheVariants.{Exchange};
 ghost use Rattle.stm_model.specs.Accesses.{meta_of_cell, next_access, owned};
-ghost use Rattle.stm_model.specs.After.{acquired, after_word, at, note_of, owner_seen, owner_seen_again, owning, same_but_pending, take_again, write_refused};
-ghost use Rattle.stm_model.specs.Attempt.{Acquire, Attempt};
+ghost use Rattle.stm_model.specs.After.{meta_acquired, after_word, at, note_of, owner_status_loaded, owner_validated, exchanged, same_but_pending, acquire_again, write_refused};
+ghost use Rattle.stm_model.specs.Attempt.{AcquireMeta, Attempt};
 ghost use Rattle.stm_model.specs.Evidence.{IsEvident};
 ghost use Rattle.stm_model.specs.Safe.{IsFree};
 ghost use Rattle.op_commit.specs.Acquire.{EndHasEvidence, EndShows, IsAcquiring, IsOfSafeCell, IsOfSafeWorld, IsOwnedOrMoved, IsWithin, KeepsPending, KnowsSafe, RefusalShows, accesses_left, acquiring, end_of_acquire, met, rounds_left, version_in};
 ghost use Rattle.op_commit.specs.declared.acquire.AcquireEnd.TheVariants.{Owned};
-ghost use Rattle.op_commit.specs.declared.acquire.AcquirePlace.TheVariants.{Exchange as AtExchange, FirstLook as AtFirstLook, SeeAgain as AtSeeAgain, SeeOwner as AtSeeOwner};
+ghost use Rattle.op_commit.specs.declared.acquire.AcquirePlace.TheVariants as at_acquire;
 
 use conflict_policy::{Move, next_move};
 use meta_word::{Phase, Policy, pack_meta, pack_status, unpack_meta, unpack_status};
@@ -32,18 +32,18 @@ pub enum AcquireEnd {
 /// Where a first write stands. The first look of the round showed `first`.
 #[derive(Clone, Copy, Debug, PartialEq, Eq)]
 pub enum AcquirePlace {
-    FirstLook,
+    AcquireMeta,
     /// It exchanges the word that it expects, again where the pending bit alone came between.
-    Exchange {
+    Acquire {
         first: Meta,
         expected: Meta,
         again: bool,
     },
     /// It looks whether the owner can be doomed.
-    SeeOwner {
+    OwnerStatus {
         first: Meta,
     },
-    SeeAgain {
+    OwnerMeta {
         first: Meta,
         status: TxnStatus,
     },
@@ -75,7 +75,7 @@ impl AcquireOp {
     pub fn new(addr: Addr, own: u16, policy: Policy, noted: Option<u64>) -> AcquireOp
         requires own { own ≤ MAX_OWNER }
         requires looks { looks policy + 1 < 2 ^ 16 }
-        ensures begins { (t : Attempt) (value : ℕ) → acquiring result value t ≡ at t (Acquire addr.0 value (looks policy) false) }
+        ensures begins { (t : Attempt) (value : ℕ) → acquiring result value t ≡ at t (AcquireMeta addr.0 value (looks policy) false) }
         ensures cell { result.addr ≡ addr }
         ensures going { end_of_acquire result ≡ None }
         ensures for_attempt { (t : Attempt) → t.own ≡ own → t.settings.policy ≡ policy → version_in (note_of t.notes addr.0) ≡ noted → IsAcquiring result t }
@@ -90,7 +90,7 @@ impl AcquireOp {
             noted,
             rounds_done: 0,
             doom_tried: false,
-            place: AcquirePlace::FirstLook,
+            place: AcquirePlace::AcquireMeta,
         }
     }
 
@@ -103,10 +103,10 @@ impl AcquireOp {
         ensures end { IsSome (end_of_acquire self.now) → result ≡ None }
     {
         match self.place {
-            AcquirePlace::FirstLook | AcquirePlace::SeeAgain { .. } => {
+            AcquirePlace::AcquireMeta | AcquirePlace::OwnerMeta { .. } => {
                 Some(Access::Load(Word::Meta(self.addr)))
             }
-            AcquirePlace::Exchange { expected, .. } => Some(Access::Exchange {
+            AcquirePlace::Acquire { expected, .. } => Some(Access::Exchange {
                 word: Word::Meta(self.addr),
                 old: pack_meta(expected),
                 new: pack_meta(Meta {
@@ -114,7 +114,7 @@ impl AcquireOp {
                     ..expected
                 }),
             }),
-            AcquirePlace::SeeOwner { first } => Some(Access::Load(Word::Status(first.owner))),
+            AcquirePlace::OwnerStatus { first } => Some(Access::Load(Word::Status(first.owner))),
             AcquirePlace::DoomOwner { first, status, .. } => Some(Access::Exchange {
                 word: Word::Status(first.owner),
                 old: pack_status(status),
@@ -146,14 +146,14 @@ impl AcquireOp {
         ensures falls { accesses_left self.new < accesses_left self.old }
     {
         match self.place {
-            AcquirePlace::FirstLook => self.look(unpack_meta(answer)),
-            AcquirePlace::Exchange {
+            AcquirePlace::AcquireMeta => self.look(unpack_meta(answer)),
+            AcquirePlace::Acquire {
                 first,
                 expected,
                 again,
             } => { self.try_to_own(first, expected, again, unpack_meta(answer)) }
-            AcquirePlace::SeeOwner { first } => self.see_owner(first, unpack_status(answer)),
-            AcquirePlace::SeeAgain { first, status } => {
+            AcquirePlace::OwnerStatus { first } => self.see_owner(first, unpack_status(answer)),
+            AcquirePlace::OwnerMeta { first, status } => {
                 self.see_again(first, status, unpack_meta(answer))
             }
             AcquirePlace::DoomOwner { first, second, .. } => self.end_round(first, second),
@@ -164,11 +164,11 @@ impl AcquireOp {
     // The first look of a round showed this.
     #[tactic(auto, unfolding(stm_model::specs::After::acquiring, stm_model::specs::Evidence::Evidence))]
     fn look(&mut self, first: Meta)
-        requires place { self.old.place ≡ AtFirstLook }
+        requires place { self.old.place ≡ at_acquire.AcquireMeta }
         requires within { IsWithin self.old }
         requires fits { MetaFits first }
         ensures after { (t : Attempt) (value : ℕ) → IsAcquiring self.old t →
-            acquired t self.old.addr.0 value (rounds_left self.old) self.old.doom_tried (note_of t.notes self.old.addr.0) first ≡ acquiring self.new value t }
+            meta_acquired t self.old.addr.0 value (rounds_left self.old) self.old.doom_tried (note_of t.notes self.old.addr.0) first ≡ acquiring self.new value t }
         ensures not_yet { (meta : Meta) → end_of_acquire self.new ≡ Some (Owned meta) → ⊥ }
         ensures cell { self.new.addr ≡ self.old.addr }
         ensures same { (t : Attempt) → IsAcquiring self.old t → IsAcquiring self.new t }
@@ -187,7 +187,7 @@ impl AcquireOp {
                 }));
             }
             _ if first.owner == 0 => {
-                self.place = AcquirePlace::Exchange {
+                self.place = AcquirePlace::Acquire {
                     first,
                     expected: first,
                     again: false,
@@ -199,7 +199,7 @@ impl AcquireOp {
 
     // Somebody owns the cell: another, that may be doomed, or the caller itself.
     fn meet_owner(&mut self, first: Meta)
-        requires place { self.old.place ≡ AtFirstLook }
+        requires place { self.old.place ≡ at_acquire.AcquireMeta }
         requires within { IsWithin self.old }
         ensures after { (t : Attempt) (value : ℕ) → IsAcquiring self.old t →
             met t self.old.addr.0 value (rounds_left self.old) self.old.doom_tried first ≡ acquiring self.new value t }
@@ -221,20 +221,20 @@ impl AcquireOp {
         );
         if let Move::TryDoom { .. } = step {
             self.doom_tried = true;
-            self.place = AcquirePlace::SeeOwner { first };
+            self.place = AcquirePlace::OwnerStatus { first };
         } else {
             self.end_round(first, first);
         }
     }
 
     // An exchange of the metadata found this.
-    #[tactic(auto, unfolding(stm_model::specs::After::owning))]
+    #[tactic(auto, unfolding(stm_model::specs::After::exchanged))]
     fn try_to_own(&mut self, first: Meta, expected: Meta, again: bool, found: Meta)
-        requires place { self.old.place ≡ AtExchange first expected again }
+        requires place { self.old.place ≡ at_acquire.Acquire first expected again }
         requires within { IsWithin self.old }
         requires fits { MetaFits found }
         ensures after { (t : Attempt) (value : ℕ) → IsAcquiring self.old t →
-            owning t self.old.addr.0 value (rounds_left self.old) self.old.doom_tried first expected again found ≡ acquiring self.new value t }
+            exchanged t self.old.addr.0 value (rounds_left self.old) self.old.doom_tried first expected again found ≡ acquiring self.new value t }
         ensures owned { (meta : Meta) → end_of_acquire self.new ≡ Some (Owned meta) → meta ≡ found }
         ensures won { (meta : Meta) → end_of_acquire self.new ≡ Some (Owned meta) → found ≡ expected }
         ensures cell { self.new.addr ≡ self.old.addr }
@@ -249,7 +249,7 @@ impl AcquireOp {
         if is_close && found.pending == expected.pending {
             self.place = AcquirePlace::Ended(AcquireEnd::Owned { meta: found });
         } else if is_close && !again {
-            self.place = AcquirePlace::Exchange {
+            self.place = AcquirePlace::Acquire {
                 first,
                 expected: found,
                 again: true,
@@ -260,13 +260,13 @@ impl AcquireOp {
     }
 
     // The owner's status shows this. Only an active owner is looked at again.
-    #[tactic(auto, unfolding(stm_model::specs::After::owner_seen))]
+    #[tactic(auto, unfolding(stm_model::specs::After::owner_status_loaded))]
     fn see_owner(&mut self, first: Meta, status: TxnStatus)
-        requires place { self.old.place ≡ AtSeeOwner first }
+        requires place { self.old.place ≡ at_acquire.OwnerStatus first }
         requires within { IsWithin self.old }
         requires fits { StatusFits status }
         ensures after { (t : Attempt) (value : ℕ) → IsAcquiring self.old t →
-            owner_seen t self.old.addr.0 value (rounds_left self.old) first status ≡ acquiring self.new value t }
+            owner_status_loaded t self.old.addr.0 value (rounds_left self.old) first status ≡ acquiring self.new value t }
         ensures not_yet { (meta : Meta) → end_of_acquire self.new ≡ Some (Owned meta) → ⊥ }
         ensures cell { self.new.addr ≡ self.old.addr }
         ensures same { (t : Attempt) → IsAcquiring self.old t → IsAcquiring self.new t }
@@ -277,19 +277,19 @@ impl AcquireOp {
         ensures falls { accesses_left self.new < accesses_left self.old }
     {
         if status.phase == Phase::Active {
-            self.place = AcquirePlace::SeeAgain { first, status };
+            self.place = AcquirePlace::OwnerMeta { first, status };
         } else {
             self.end_round(first, first);
         }
     }
 
     // The cell shows this. Only an owner that still holds it, and isn't changing it, is doomed.
-    #[tactic(auto, unfolding(stm_model::specs::After::owner_seen_again))]
+    #[tactic(auto, unfolding(stm_model::specs::After::owner_validated))]
     fn see_again(&mut self, first: Meta, status: TxnStatus, second: Meta)
-        requires place { self.old.place ≡ AtSeeAgain first status }
+        requires place { self.old.place ≡ at_acquire.OwnerMeta first status }
         requires within { IsWithin self.old }
         ensures after { (t : Attempt) (value : ℕ) → IsAcquiring self.old t →
-            owner_seen_again t self.old.addr.0 value (rounds_left self.old) first status second ≡ acquiring self.new value t }
+            owner_validated t self.old.addr.0 value (rounds_left self.old) first status second ≡ acquiring self.new value t }
         ensures not_yet { (meta : Meta) → end_of_acquire self.new ≡ Some (Owned meta) → ⊥ }
         ensures cell { self.new.addr ≡ self.old.addr }
         ensures same { (t : Attempt) → IsAcquiring self.old t → IsAcquiring self.new t }
@@ -314,7 +314,7 @@ impl AcquireOp {
     fn end_round(&mut self, first: Meta, latest: Meta)
         requires { IsWithin self.old }
         ensures after { (t : Attempt) (value : ℕ) → IsAcquiring self.old t →
-            take_again t self.old.addr.0 value (rounds_left self.old) self.old.doom_tried first latest ≡ acquiring self.new value t }
+            acquire_again t self.old.addr.0 value (rounds_left self.old) self.old.doom_tried first latest ≡ acquiring self.new value t }
         ensures not_yet { (meta : Meta) → end_of_acquire self.new ≡ Some (Owned meta) → ⊥ }
         ensures cell { self.new.addr ≡ self.old.addr }
         ensures same { (t : Attempt) → IsAcquiring self.old t → IsAcquiring self.new t }
@@ -327,7 +327,7 @@ impl AcquireOp {
         let step = next_move(self.policy, self.rounds_done + 1, true, latest, self.own);
         if let Move::Again = step {
             self.rounds_done += 1;
-            self.place = AcquirePlace::FirstLook;
+            self.place = AcquirePlace::AcquireMeta;
         } else {
             self.place = AcquirePlace::Ended(AcquireEnd::Bad(self.refusal(first, latest)));
         }

@@ -5,11 +5,11 @@ ghost use Rattle.meta_word.specs.declared.status.TheConstants.{MAX_SERIAL};
 ghost use Rattle.stm_model.specs.declared.cause.Addr.{Addr};
 ghost use Rattle.stm_model.specs.declared.note.Note.{Note};
 ghost use Rattle.stm_model.specs.Accesses.{next_access};
-ghost use Rattle.stm_model.specs.After.{after_word, give_back_on, roll_on};
+ghost use Rattle.stm_model.specs.After.{after_word, release_level_on, roll_on};
 ghost use Rattle.stm_model.specs.Attempt.{Attempt};
 ghost use Rattle.op_commit.specs.Back.{IsAlong, IsBacking, IsInPlace, accesses_left, backing, backing_at, due_at, due_by, end_of_back, left_at};
 ghost use Rattle.op_commit.specs.Buffered.{buffered, ring_for};
-ghost use Rattle.op_commit.specs.declared.back.BackPlace.TheVariants.{Cell as AtCell};
+ghost use Rattle.op_commit.specs.declared.back.BackPlace.TheVariants as at_back;
 
 use crate::rings::cell_to_ring;
 use meta_word::{OWNER_AND_CHANGING_BITS, Phase, pack_status, unpack_meta};
@@ -48,7 +48,7 @@ impl BackOp {
     /// A way back that has made no access.
     pub fn new(own: u16, serial: u64, first: usize, whole: bool) -> BackOp
         requires { serial ≤ MAX_SERIAL }
-        ensures undoes { whole ≡ false → (t : Attempt) → backing result t ≡ give_back_on t (take first t.now.writes) (drop first t.now.writes) }
+        ensures undoes { whole ≡ false → (t : Attempt) → backing result t ≡ release_level_on t (take first t.now.writes) (drop first t.now.writes) }
         ensures rolls { whole ≡ true → (t : Attempt) → backing result t ≡ roll_on t (drop first t.now.writes) }
         ensures going { end_of_back result ≡ None }
         ensures whole { result.whole ≡ whole }
@@ -121,10 +121,10 @@ impl BackOp {
     fn back_from(&self, index: usize, count: usize) -> BackPlace
         requires { index ≤ count }
         ensures stands { (t : Attempt) → length t.now.writes ≡ count →
-            backing_at (AtCell index) self.now.first self.now.whole t ≡ backing_at result self.now.first self.now.whole t }
+            backing_at (at_back.Cell index) self.now.first self.now.whole t ≡ backing_at result self.now.first self.now.whole t }
         ensures due { (t : Attempt) (rung : Option Addr) → due_at result self.now.whole rung t ≡ ring_for rung }
         ensures in_place { (notes : List Note) → length notes ≡ count → IsInPlace result self.now.whole notes }
-        ensures left { left_at result self.now.whole count ≡ left_at (AtCell index) self.now.whole count }
+        ensures left { left_at result self.now.whole count ≡ left_at (at_back.Cell index) self.now.whole count }
     {
         if index < count || self.whole {
             BackPlace::Cell { index }

@@ -12,13 +12,13 @@ ghost use Rattle.stm_model.specs.declared.access.Word.TheVariants.{Status};
 ghost use Rattle.stm_model.specs.declared.cause.Cause.TheVariants.{Stale};
 ghost use Rattle.stm_model.specs.declared.note.Note.{Note};
 ghost use Rattle.stm_model.specs.Accesses.{active, next_access, released};
-ghost use Rattle.stm_model.specs.After.{after_word, at, check_on, decided, mark_on, prepared, release_on, store_on};
+ghost use Rattle.stm_model.specs.After.{after_word, at, validate_on, decided, mark_on, prepared, release_on, store_on};
 ghost use Rattle.stm_model.specs.Attempt.{Attempt, Prepare};
 ghost use Rattle.op_commit.specs.Commit.{ClockFits, IsAlong, IsCommitting, IsInPlace, IsOfOwnAttempt, IsOfSafeWorld, IsStop, PlaceHasEvidence, PlaceShows, accesses_left, committing, committing_at, due_at, due_by, end_at, end_of_commit, in_preparation, left_at, notes_to_commit, rounds, stamped};
 ghost use Rattle.op_commit.specs.Buffered.{ring_for};
 ghost use Rattle.op_commit.specs.declared.commit.CommitEnd.TheVariants.{Bad};
 ghost use Rattle.stm_model.specs.declared.cause.Addr.{Addr};
-ghost use Rattle.op_commit.specs.declared.commit.CommitPlace.TheVariants.{Check as AtCheck, Ended as AtEnd, Mark as AtMark, Release as AtRelease, Store as AtStore};
+ghost use Rattle.op_commit.specs.declared.commit.CommitPlace.TheVariants as at_commit;
 
 use crate::rings::cell_to_ring;
 use meta_word::{CHANGING_BIT, Phase, pack_meta, pack_status, unpack_meta, unpack_status};
@@ -41,10 +41,10 @@ pub enum CommitEnd {
 pub enum CommitPlace {
     Prepare,
     Mark { index: usize },
-    Sample { lost: u16 },
-    Check { lost: u16, clock: u64, index: usize },
+    CommitClock { lost: u16 },
+    CommitNote { lost: u16, clock: u64, index: usize },
     Decide { lost: u16, clock: u64 },
-    Store { stamp: u64, index: usize },
+    StoreValues { stamp: u64, index: usize },
     Release { stamp: u64, index: usize },
     Close { stamp: u64 },
     Ended(CommitEnd),
@@ -104,8 +104,8 @@ impl CommitOp {
                 Word::Meta(notes.at(index).addr),
                 CHANGING_BIT,
             )),
-            CommitPlace::Sample { .. } => Some(Access::Load(Word::Clock)),
-            CommitPlace::Check { index, .. } => {
+            CommitPlace::CommitClock { .. } => Some(Access::Load(Word::Clock)),
+            CommitPlace::CommitNote { index, .. } => {
                 Some(Access::Load(Word::Meta(notes.at(index).addr)))
             }
             CommitPlace::Decide { clock, .. } => Some(Access::Exchange {
@@ -113,7 +113,7 @@ impl CommitOp {
                 old: clock,
                 new: clock + 1,
             }),
-            CommitPlace::Store { index, .. } => {
+            CommitPlace::StoreValues { index, .. } => {
                 let note = notes.at(index);
                 Some(Access::Store(Word::Value(note.addr), note.value))
             }
@@ -172,10 +172,10 @@ impl CommitOp {
         match self.place {
             CommitPlace::Prepare => self.place = self.after_prepare(unpack_status(answer)),
             CommitPlace::Mark { index } => self.place = self.mark_from(index + 1),
-            CommitPlace::Sample { lost } => {
+            CommitPlace::CommitClock { lost } => {
                 self.place = self.check_from(lost, answer, self.writes, count);
             }
-            CommitPlace::Check { lost, clock, index } => {
+            CommitPlace::CommitNote { lost, clock, index } => {
                 let note = notes.at(index);
                 let found = unpack_meta(answer);
                 if found.still_has(self.own, note.version) {
@@ -187,7 +187,7 @@ impl CommitOp {
             CommitPlace::Decide { lost, clock } => self.place = self.after_decide(
                 lost, clock, answer,
             ),
-            CommitPlace::Store { stamp, index } => self.place = self.store_from(stamp, index + 1),
+            CommitPlace::StoreValues { stamp, index } => self.place = self.store_from(stamp, index + 1),
             CommitPlace::Release { stamp, index } => {
                 self.rung = cell_to_ring(unpack_meta(answer), notes.at(index).addr);
                 self.place = self.release_from(stamp, index + 1);
@@ -226,17 +226,17 @@ impl CommitOp {
         ensures due { (t : Attempt) → due_at result None t ≡ [] }
         ensures going { IsNone (end_at result) }
         ensures in_place { (count : ℕ) → IsInPlace result self.now.writes self.now.limit count }
-        ensures left { (reads : ℕ) → left_at result self.now.writes self.now.tries reads ≡ left_at (AtMark index) self.now.writes self.now.tries reads }
+        ensures left { (reads : ℕ) → left_at result self.now.writes self.now.tries reads ≡ left_at (at_commit.Mark index) self.now.writes self.now.tries reads }
     {
         if index < self.writes {
             CommitPlace::Mark { index }
         } else {
-            CommitPlace::Sample { lost: 0 }
+            CommitPlace::CommitClock { lost: 0 }
         }
     }
 
     // Of so many notes, those before this index hold good at the clock.
-    #[tactic(auto, unfolding(stm_model::specs::After::check_on, stm_model::specs::Evidence::Evidence))]
+    #[tactic(auto, unfolding(stm_model::specs::After::validate_on, stm_model::specs::Evidence::Evidence))]
     fn check_from(&self, lost: u16, clock: u64, index: usize, count: usize) -> CommitPlace
         requires behind { self.now.writes ≤ index }
         requires within { index ≤ count }
@@ -244,14 +244,14 @@ impl CommitOp {
         ensures failure { PlaceShows self.now result }
         ensures evidence { PlaceHasEvidence self.now result }
         ensures stands { (t : Attempt) → IsCommitting self.now t → count ≡ self.now.writes + length t.notes →
-            check_on (in_preparation t) lost clock (drop (index - self.now.writes) t.notes) ≡ committing_at result self.now.writes t }
+            validate_on (in_preparation t) lost clock (drop (index - self.now.writes) t.notes) ≡ committing_at result self.now.writes t }
         ensures due { (t : Attempt) → due_at result None t ≡ [] }
         ensures in_place { IsInPlace result self.now.writes self.now.limit count }
         ensures left { (reads : ℕ) → count ≡ self.now.writes + reads →
-            left_at result self.now.writes self.now.tries reads ≤ left_at (AtCheck lost clock index) self.now.writes self.now.tries reads }
+            left_at result self.now.writes self.now.tries reads ≤ left_at (at_commit.CommitNote lost clock index) self.now.writes self.now.tries reads }
     {
         if index < count {
-            CommitPlace::Check { lost, clock, index }
+            CommitPlace::CommitNote { lost, clock, index }
         } else if clock == self.limit {
             CommitPlace::Ended(CommitEnd::Bad {
                 cause: Cause::ClockEnd { clock },
@@ -276,7 +276,7 @@ impl CommitOp {
         if found == clock {
             CommitPlace::Ended(CommitEnd::Decided { stamp: clock + 1 })
         } else if lost < self.tries {
-            CommitPlace::Sample { lost: lost + 1 }
+            CommitPlace::CommitClock { lost: lost + 1 }
         } else {
             refused(Cause::ClockMoved {
                 first: clock,
@@ -295,10 +295,10 @@ impl CommitOp {
         ensures due { (t : Attempt) → due_at result None t ≡ [] }
         ensures going { IsNone (end_at result) }
         ensures in_place { stamp ≤ self.now.limit → (count : ℕ) → IsInPlace result self.now.writes self.now.limit count }
-        ensures left { (reads : ℕ) → left_at result self.now.writes self.now.tries reads ≡ left_at (AtStore stamp index) self.now.writes self.now.tries reads }
+        ensures left { (reads : ℕ) → left_at result self.now.writes self.now.tries reads ≡ left_at (at_commit.StoreValues stamp index) self.now.writes self.now.tries reads }
     {
         if index < self.writes {
-            CommitPlace::Store { stamp, index }
+            CommitPlace::StoreValues { stamp, index }
         } else {
             self.release_from(stamp, 0)
         }
@@ -314,7 +314,7 @@ impl CommitOp {
         ensures due { (t : Attempt) (rung : Option Addr) → due_at result rung t ≡ ring_for rung }
         ensures going { IsNone (end_at result) }
         ensures in_place { stamp ≤ self.now.limit → (count : ℕ) → IsInPlace result self.now.writes self.now.limit count }
-        ensures left { (reads : ℕ) → left_at result self.now.writes self.now.tries reads ≡ left_at (AtRelease stamp index) self.now.writes self.now.tries reads }
+        ensures left { (reads : ℕ) → left_at result self.now.writes self.now.tries reads ≡ left_at (at_commit.Release stamp index) self.now.writes self.now.tries reads }
     {
         if index < self.writes {
             CommitPlace::Release { stamp, index }
@@ -360,7 +360,7 @@ impl CommitOp {
 
 // The attempt is to be rolled back at the prefix that it has.
 fn refused(cause: Cause) -> CommitPlace
-    ensures { result ≡ AtEnd (Bad cause None) }
+    ensures { result ≡ at_commit.Ended (Bad cause None) }
 {
     CommitPlace::Ended(CommitEnd::Bad {
         cause,
@@ -370,7 +370,7 @@ fn refused(cause: Cause) -> CommitPlace
 
 // The cell was noted at another version, or is about to change.
 fn stale(note: Note, found: Meta) -> CommitPlace
-    ensures { result ≡ AtEnd (Bad (Stale note.addr note.version found) None) }
+    ensures { result ≡ at_commit.Ended (Bad (Stale note.addr note.version found) None) }
 {
     refused(Cause::Stale {
         addr: note.addr,

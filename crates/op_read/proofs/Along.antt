@@ -8,7 +8,7 @@ use Rattle.stm_model.specs.declared.cause.Cause.TheVariants.{Stale}
 use Rattle.stm_model.specs.declared.note.Note.{Note}
 use Rattle.stm_model.specs.Accesses.{access_of, answer_of, next_access, next_at}
 use Rattle.stm_model.specs.After.{after_at, after_word, at, extend_on, extended, stopped}
-use Rattle.stm_model.specs.Attempt.{Attempt, Extend}
+use Rattle.stm_model.specs.Attempt.{Attempt, ExtendNote}
 
 drop-at : {X : Type 0} (list : List X) (index : ℕ) (entry : X) → slice_get list index ≡ Some entry → drop index list ≡ entry ∷ drop (suc index) list
 drop-at [] index entry here = cc here
@@ -22,7 +22,7 @@ drop-here list index entry here =
 
 module _ (t : Attempt) (cell left : ℕ) (first : Meta) (clock index : ℕ) (note : Note) (here : slice_get t.notes index ≡ Some note) where
   -- at a note of this index the extension looks at it
-  stands : extend_on t cell left first clock (drop index t.notes) ≡ at t (Extend cell left first clock note (drop (index + 1) t.notes))
+  stands : extend_on t cell left first clock (drop index t.notes) ≡ at t (ExtendNote cell left first clock note (drop (index + 1) t.notes))
   stands = rw (drop-here t.notes index note here) refl
 
   pub looks-at : t.due ≡ [] → next_access (extend_on t cell left first clock (drop index t.notes)) ≡ Some (Load (MetaOf note.addr))

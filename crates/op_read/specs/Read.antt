@@ -7,10 +7,10 @@ use Rattle.op_read.specs.declared.read.ReadEnd.{ReadEnd}
 use Rattle.op_read.specs.declared.read.ReadEnd.TheVariants.{Got, NeedExtension, Bad}
 use Rattle.op_read.specs.declared.read.ReadOp.{ReadOp}
 use Rattle.op_read.specs.declared.read.ReadPlace.{ReadPlace}
-use Rattle.op_read.specs.declared.read.ReadPlace.TheVariants.{Ended, Fetch as AtFetch, FirstLook as AtFirstLook, SecondLook as AtSecondLook}
+use Rattle.op_read.specs.declared.read.ReadPlace.TheVariants as at_read
 use Rattle.stm_model.specs.Accesses.{addr_of}
 use Rattle.stm_model.specs.After.{at, stopped, answer_with}
-use Rattle.stm_model.specs.Attempt.{Attempt, Fetch, FirstLook, Renew, SecondLook}
+use Rattle.stm_model.specs.Attempt.{Attempt, ReadValue, ReadMeta, ExtendClock, Validate}
 use Rattle.stm_model.specs.Evidence.{IsEvident}
 
 -- an attempt that has read a cell
@@ -19,14 +19,14 @@ got t cell value version = answer_with (record t { notes = t.notes ++ record { a
 
 abbrev pub reading_end : Attempt → (cell left : ℕ) → ReadEnd → Attempt
 reading_end t cell left (Got value version) = got t cell value version
-reading_end t cell left (NeedExtension meta) = at t (Renew cell left meta)
+reading_end t cell left (NeedExtension meta) = at t (ExtendClock cell left meta)
 reading_end t cell left (Bad cause) = stopped t cause
 
 abbrev pub reading_at : Attempt → (cell left : ℕ) → ReadPlace → Attempt
-reading_at t cell left AtFirstLook = at t (FirstLook cell left)
-reading_at t cell left (AtFetch first) = at t (Fetch cell left first)
-reading_at t cell left (AtSecondLook first value) = at t (SecondLook cell left first value)
-reading_at t cell left (Ended end) = reading_end t cell left end
+reading_at t cell left at_read.ReadMeta = at t (ReadMeta cell left)
+reading_at t cell left (at_read.ReadValue first) = at t (ReadValue cell left first)
+reading_at t cell left (at_read.Validate first value) = at t (Validate cell left first value)
+reading_at t cell left (at_read.Ended end) = reading_end t cell left end
 
 -- the attempt that this one is while the read stands so
 abbrev pub reading : ReadOp → Attempt → Attempt
@@ -38,7 +38,7 @@ pub record IsReading (op : ReadOp) (t : Attempt) : Type 0 where
   pub prefix : t.prefix ≡ op.prefix
 
 abbrev pub ended_at : ReadPlace → Option ReadEnd
-ended_at (Ended end) = Some end
+ended_at (at_read.Ended end) = Some end
 ended_at _ = None
 
 abbrev pub end_of_read : ReadOp → Option ReadEnd
@@ -46,16 +46,16 @@ end_of_read op = ended_at op.place
 
 -- It waits for an extension.
 abbrev pub IsToExtend : ReadPlace → Type 0
-IsToExtend (Ended (NeedExtension meta)) = Unit {0}
+IsToExtend (at_read.Ended (NeedExtension meta)) = Unit {0}
 IsToExtend _ = ⊥
 
 -- how many accesses may follow, with so many notes to extend over in each round
 abbrev pub left_at : ReadPlace → (left reads : ℕ) → ℕ
-left_at AtFirstLook left reads = (left + 1) * (4 + reads)
-left_at (AtFetch first) left reads = left * (4 + reads) + 2
-left_at (AtSecondLook first value) left reads = left * (4 + reads) + 1
-left_at (Ended (NeedExtension meta)) left reads = left * (4 + reads) + 3 + reads
-left_at (Ended end) left reads = 0
+left_at at_read.ReadMeta left reads = (left + 1) * (4 + reads)
+left_at (at_read.ReadValue first) left reads = left * (4 + reads) + 2
+left_at (at_read.Validate first value) left reads = left * (4 + reads) + 1
+left_at (at_read.Ended (NeedExtension meta)) left reads = left * (4 + reads) + 3 + reads
+left_at (at_read.Ended end) left reads = 0
 
 abbrev pub accesses_left : ReadOp → ℕ → ℕ
 accesses_left op reads = left_at op.place op.left reads
@@ -69,9 +69,9 @@ IsLoad _ = ⊥
 
 -- Where a first look was followed by more, no other caller was changing the cell.
 abbrev pub IsQuietAt : ℕ → ReadPlace → Type 0
-IsQuietAt own (AtFetch first) = IsFalse (changing_by_another own first)
-IsQuietAt own (AtSecondLook first value) = IsFalse (changing_by_another own first)
-IsQuietAt own (Ended (NeedExtension meta)) = IsFalse (changing_by_another own meta)
+IsQuietAt own (at_read.ReadValue first) = IsFalse (changing_by_another own first)
+IsQuietAt own (at_read.Validate first value) = IsFalse (changing_by_another own first)
+IsQuietAt own (at_read.Ended (NeedExtension meta)) = IsFalse (changing_by_another own meta)
 IsQuietAt own _ = Unit {0}
 
 abbrev pub IsQuiet : ReadOp → Type 0

@@ -4,7 +4,7 @@ ghost use Rattle.meta_word.specs.declared.meta.Meta.{Meta};
 ghost use Rattle.stm_model.specs.declared.note.Note.{Note};
 ghost use Rattle.stm_model.specs.Accesses.{next_access};
 ghost use Rattle.stm_model.specs.After.{after_word, at, extend_on};
-ghost use Rattle.stm_model.specs.Attempt.{Attempt, Renew};
+ghost use Rattle.stm_model.specs.Attempt.{Attempt, ExtendClock};
 ghost use Rattle.op_read.specs.Read.{IsLoad};
 ghost use Rattle.op_read.specs.Extend.{ExtensionShows, IsAlong, IsExtending, end_of_extension, extending, looks_left};
 
@@ -22,9 +22,9 @@ pub enum ExtendEnd {
 /// Where an extension stands.
 #[derive(Clone, Copy, Debug, PartialEq, Eq)]
 pub enum ExtendPlace {
-    Clock,
+    ExtendClock,
     /// It looks at the note of this index, the clock having been loaded.
-    Note { clock: u64, index: usize },
+    ExtendNote { clock: u64, index: usize },
     Ended(ExtendEnd),
 }
 
@@ -39,7 +39,7 @@ pub struct ExtendOp {
 impl ExtendOp {
     /// An extension that has made no access.
     pub fn new(own: u16) -> ExtendOp
-        ensures begins { (t : Attempt) (cell left : ℕ) (first : Meta) → extending result cell left first t ≡ at t (Renew cell left first) }
+        ensures begins { (t : Attempt) (cell left : ℕ) (first : Meta) → extending result cell left first t ≡ at t (ExtendClock cell left first) }
         ensures going { end_of_extension result ≡ None }
         ensures along { (notes : List Note) → IsAlong result notes }
         ensures for_attempt { (t : Attempt) → t.own ≡ own → IsExtending result t }
@@ -47,7 +47,7 @@ impl ExtendOp {
     {
         ExtendOp {
             own,
-            place: ExtendPlace::Clock,
+            place: ExtendPlace::ExtendClock,
         }
     }
 
@@ -61,8 +61,8 @@ impl ExtendOp {
         ensures loads { IfSome result IsLoad }
     {
         match self.place {
-            ExtendPlace::Clock => Some(Access::Load(Word::Clock)),
-            ExtendPlace::Note { index, .. } => Some(Access::Load(Word::Meta(notes.at(index).addr))),
+            ExtendPlace::ExtendClock => Some(Access::Load(Word::Clock)),
+            ExtendPlace::ExtendNote { index, .. } => Some(Access::Load(Word::Meta(notes.at(index).addr))),
             ExtendPlace::Ended(_) => None,
         }
     }
@@ -81,8 +81,8 @@ impl ExtendOp {
     {
         let count = notes.len();
         match self.place {
-            ExtendPlace::Clock => self.go_on(answer, 0, count),
-            ExtendPlace::Note { clock, index } => {
+            ExtendPlace::ExtendClock => self.go_on(answer, 0, count),
+            ExtendPlace::ExtendNote { clock, index } => {
                 let note = notes.at(index);
                 let found = unpack_meta(answer);
                 if found.still_has(self.own, note.version) {
@@ -110,7 +110,7 @@ impl ExtendOp {
         ensures looks { looks_left self.new count ≡ count - index }
     {
         self.place = if index < count {
-            ExtendPlace::Note { clock, index }
+            ExtendPlace::ExtendNote { clock, index }
         } else {
             ExtendPlace::Ended(ExtendEnd::Prefix(clock))
         };

@@ -2,12 +2,12 @@
 //! version. It is made anew as often as the policy grants looks.
 ghost use Rattle.std.specs.Prelude.{◌≡◌, ◌<◌, ◌≤◌, ◌+◌, ◌*◌, [], ℕ, IfSome, IsNone, IsSome, None, Some};
 ghost use Rattle.stm_model.specs.Accesses.{next_access};
-ghost use Rattle.stm_model.specs.After.{after_word, at, look_again, looked, looked_twice};
-ghost use Rattle.stm_model.specs.Attempt.{Attempt, Fetch, FirstLook};
+ghost use Rattle.stm_model.specs.After.{after_word, at, read_again, meta_read, validated};
+ghost use Rattle.stm_model.specs.Attempt.{Attempt, ReadValue, ReadMeta};
 ghost use Rattle.stm_model.specs.Evidence.{IsEvident};
 ghost use Rattle.meta_word.specs.declared.meta.Meta.{Meta};
 ghost use Rattle.op_read.specs.declared.read.ReadEnd.TheVariants.{NeedExtension};
-ghost use Rattle.op_read.specs.declared.read.ReadPlace.TheVariants.{FirstLook as AtFirstLook, SecondLook as AtSecondLook};
+ghost use Rattle.op_read.specs.declared.read.ReadPlace.TheVariants as at_read;
 ghost use Rattle.op_read.specs.Read.{EndShows, IsLoad, IsQuiet, IsReading, IsToExtend, accesses_left, end_of_read, reading};
 
 use meta_word::unpack_meta;
@@ -26,9 +26,9 @@ pub enum ReadEnd {
 /// Where a read stands.
 #[derive(Clone, Copy, Debug, PartialEq, Eq)]
 pub enum ReadPlace {
-    FirstLook,
-    Fetch { first: Meta },
-    SecondLook { first: Meta, value: u64 },
+    ReadMeta,
+    ReadValue { first: Meta },
+    Validate { first: Meta, value: u64 },
     Ended(ReadEnd),
 }
 
@@ -47,7 +47,7 @@ pub struct ReadOp {
 impl ReadOp {
     /// A read that has made no access. It has one round more than `looks`.
     pub fn new(addr: Addr, own: u16, prefix: u64, looks: u16) -> ReadOp
-        ensures begins { (t : Attempt) → reading result t ≡ at t (FirstLook addr.0 looks) }
+        ensures begins { (t : Attempt) → reading result t ≡ at t (ReadMeta addr.0 looks) }
         ensures cell { result.addr ≡ addr }
         ensures going { end_of_read result ≡ None }
         ensures for_attempt { (t : Attempt) → t.own ≡ own → t.prefix ≡ prefix → IsReading result t }
@@ -59,7 +59,7 @@ impl ReadOp {
             own,
             prefix,
             left: looks,
-            place: ReadPlace::FirstLook,
+            place: ReadPlace::ReadMeta,
         }
     }
 
@@ -71,10 +71,10 @@ impl ReadOp {
         ensures loads { IfSome result IsLoad }
     {
         match self.place {
-            ReadPlace::FirstLook | ReadPlace::SecondLook { .. } => {
+            ReadPlace::ReadMeta | ReadPlace::Validate { .. } => {
                 Some(Access::Load(Word::Meta(self.addr)))
             }
-            ReadPlace::Fetch { .. } => Some(Access::Load(Word::Value(self.addr))),
+            ReadPlace::ReadValue { .. } => Some(Access::Load(Word::Value(self.addr))),
             ReadPlace::Ended(_) => None,
         }
     }
@@ -91,14 +91,14 @@ impl ReadOp {
         ensures falls { (reads : ℕ) → accesses_left self.new reads < accesses_left self.old reads }
     {
         match self.place {
-            ReadPlace::FirstLook => self.look(unpack_meta(answer)),
-            ReadPlace::Fetch { first } => {
-                self.place = ReadPlace::SecondLook {
+            ReadPlace::ReadMeta => self.look(unpack_meta(answer)),
+            ReadPlace::ReadValue { first } => {
+                self.place = ReadPlace::Validate {
                     first,
                     value: answer,
                 }
             }
-            ReadPlace::SecondLook { first, value } => {
+            ReadPlace::Validate { first, value } => {
                 self.look_twice(first, value, unpack_meta(answer))
             }
             ReadPlace::Ended(_) => {}
@@ -106,10 +106,10 @@ impl ReadOp {
     }
 
     // A first look showed this.
-    #[tactic(auto, unfolding(stm_model::specs::After::looked, stm_model::specs::Evidence::Evidence))]
+    #[tactic(auto, unfolding(stm_model::specs::After::meta_read, stm_model::specs::Evidence::Evidence))]
     fn look(&mut self, first: Meta)
-        requires { self.old.place ≡ AtFirstLook }
-        ensures after { (t : Attempt) → IsReading self.old t → looked t self.old.addr.0 self.old.left first ≡ reading self.new t }
+        requires { self.old.place ≡ at_read.ReadMeta }
+        ensures after { (t : Attempt) → IsReading self.old t → meta_read t self.old.addr.0 self.old.left first ≡ reading self.new t }
         ensures cell { self.new.addr ≡ self.old.addr }
         ensures same { (t : Attempt) → IsReading self.old t → IsReading self.new t }
         ensures quiet { IsQuiet self.old → IsQuiet self.new }
@@ -124,15 +124,15 @@ impl ReadOp {
         } else if first.version > self.prefix {
             self.place = ReadPlace::Ended(ReadEnd::NeedExtension { meta: first });
         } else {
-            self.place = ReadPlace::Fetch { first };
+            self.place = ReadPlace::ReadValue { first };
         }
     }
 
     // A second look showed this.
-    #[tactic(auto, using(stm_model::proofs::EvidenceLemmas::has_moved), unfolding(stm_model::specs::After::looked_twice, stm_model::specs::Evidence::Evidence))]
+    #[tactic(auto, using(stm_model::proofs::EvidenceLemmas::has_moved), unfolding(stm_model::specs::After::validated, stm_model::specs::Evidence::Evidence))]
     fn look_twice(&mut self, first: Meta, value: u64, second: Meta)
-        requires { self.old.place ≡ AtSecondLook first value }
-        ensures after { (t : Attempt) → IsReading self.old t → looked_twice t self.old.addr.0 self.old.left first value second ≡ reading self.new t }
+        requires { self.old.place ≡ at_read.Validate first value }
+        ensures after { (t : Attempt) → IsReading self.old t → validated t self.old.addr.0 self.old.left first value second ≡ reading self.new t }
         ensures cell { self.new.addr ≡ self.old.addr }
         ensures same { (t : Attempt) → IsReading self.old t → IsReading self.new t }
         ensures quiet { IsQuiet self.old → IsQuiet self.new }
@@ -155,7 +155,7 @@ impl ReadOp {
 
     // A round is over: one more, or the read is refused.
     fn end_round(&mut self, cause: Cause)
-        ensures after { (t : Attempt) → look_again t self.old.addr.0 self.old.left cause ≡ reading self.new t }
+        ensures after { (t : Attempt) → read_again t self.old.addr.0 self.old.left cause ≡ reading self.new t }
         ensures cell { self.new.addr ≡ self.old.addr }
         ensures same { (t : Attempt) → IsReading self.old t → IsReading self.new t }
         ensures quiet { IsQuiet self.new }
@@ -166,7 +166,7 @@ impl ReadOp {
             self.place = ReadPlace::Ended(ReadEnd::Bad(cause));
         } else {
             self.left -= 1;
-            self.place = ReadPlace::FirstLook;
+            self.place = ReadPlace::ReadMeta;
         }
     }
 
@@ -174,7 +174,7 @@ impl ReadOp {
     pub fn resume(&mut self, prefix: u64)
         requires { IsToExtend self.old.place }
         ensures place { (meta : Meta) → end_of_read self.old ≡ Some (NeedExtension meta) → (t : Attempt) →
-            reading self.new t ≡ at t (Fetch self.old.addr.0 self.old.left meta) }
+            reading self.new t ≡ at t (ReadValue self.old.addr.0 self.old.left meta) }
         ensures cell { self.new.addr ≡ self.old.addr }
         ensures going { end_of_read self.new ≡ None }
         ensures for_attempt { (t : Attempt) → t.own ≡ self.old.own → t.prefix ≡ prefix → IsReading self.new t }
@@ -183,7 +183,7 @@ impl ReadOp {
     {
         self.prefix = prefix;
         if let ReadPlace::Ended(ReadEnd::NeedExtension { meta }) = self.place {
-            self.place = ReadPlace::Fetch { first: meta };
+            self.place = ReadPlace::ReadValue { first: meta };
         }
     }
 

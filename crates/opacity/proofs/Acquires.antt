@@ -8,8 +8,8 @@ use Rattle.meta_word.specs.declared.status.Phase.TheVariants.{Active}
 use Rattle.stm_model.specs.declared.cause.Cause.TheVariants.{Stale}
 use Rattle.stm_model.specs.declared.note.Note.{Note}
 use Rattle.stm_model.specs.Accesses.{next_at, owned}
-use Rattle.stm_model.specs.After.{acquired, acquiring, after_at, at, done, note_of, owning, same_bool, same_but_pending, same_meta, stopped, take_again, taken, write_refused}
-use Rattle.stm_model.specs.Attempt.{Acquire, Attempt, Own, Ready, SeeOwner, Stage, Write, held_at, holds, unmarked_at, unstored_at}
+use Rattle.stm_model.specs.After.{meta_acquired, acquiring, after_at, at, done, note_of, exchanged, same_bool, same_but_pending, same_meta, stopped, acquire_again, doom_or_again, write_refused}
+use Rattle.stm_model.specs.Attempt.{AcquireMeta, Attempt, Acquire, Ready, OwnerStatus, Stage, Write, held_at, holds, unmarked_at, unstored_at}
 use Rattle.stm_model.specs.Evidence.{Evidence, HasMoved}
 use Rattle.stm_model.specs.Heap.{put, writes_to}
 use Rattle.stm_model.specs.Safe.{NamesNote, IsKept, EndingAt, EndsSo, HasBegun, IsFree, IsToWrite, PhaseAt, Safe, SafeAttempt, SafeStage, WasFound, stamp_on}
@@ -103,10 +103,10 @@ module _ (terms : Terms) (w : World) (p : ℕ) (t : Attempt) (here : Stage) (is_
   pub to_taking : (there : Stage) → IsOpen there → IsPlain there → SafeStage terms w t there → Fits terms w p (at t here) (at t there)
   to_taking there then_open plain stage = open_fits terms w p t t here there is_open then_open plain phase ending (goes_on_same terms w p t sound) stage
 
-  pub taken_again : (cell value left : ℕ) (doomed : Bool) (first latest : Meta) → Shows t (write_refused t.own cell first latest) → IsToWrite terms t cell value → Fits terms w p (at t here) (take_again t cell value left doomed first latest)
+  pub taken_again : (cell value left : ℕ) (doomed : Bool) (first latest : Meta) → Shows t (write_refused t.own cell first latest) → IsToWrite terms t cell value → Fits terms w p (at t here) (acquire_again t cell value left doomed first latest)
   unfolding SafeStage
   taken_again cell value zero doomed first latest shown write = stopped_open terms w p t here is_open phase ending sound (write_refused t.own cell first latest) shown
-  taken_again cell value (suc left) doomed first latest shown write = to_taking (Acquire cell value left doomed) tt tt write
+  taken_again cell value (suc left) doomed first latest shown write = to_taking (AcquireMeta cell value left doomed) tt tt write
 
 module _ (lawful : List ℕ → Type 0) (may : List ℕ → List ℕ → Type 0) (terms : Terms) (w : World) (p : ℕ) (safe : Safe lawful may terms w) (caller : IsCaller terms p) where
   abbrev t : Attempt
@@ -133,9 +133,9 @@ module _ (lawful : List ℕ → Type 0) (may : List ℕ → List ℕ → Type 0)
   pub nobodys : (stage : Stage) → IsOpen stage → t.stage ≡ stage → (cell value : ℕ) → IsToWrite terms t cell value → owned_by_another t.own (w.meta cell) ≡ false → (w.meta cell).owner ≡ 0
   nobodys stage is_open is cell value write test = nobody_else t.own (w.meta cell).owner (not_own stage is_open is cell value write) test
 
-  module _ (cell value left : ℕ) (doomed : Bool) (is : t.stage ≡ Acquire cell value left doomed) where
+  module _ (cell value left : ℕ) (doomed : Bool) (is : t.stage ≡ AcquireMeta cell value left doomed) where
     abbrev here : Stage
-    here = Acquire cell value left doomed
+    here = AcquireMeta cell value left doomed
 
     write : IsToWrite terms t cell value
     unfolding SafeStage
@@ -145,34 +145,34 @@ module _ (lawful : List ℕ → Type 0) (may : List ℕ → List ℕ → Type 0)
     unfolding acquiring SafeStage
     tries = go (owned_by_another t.own (w.meta cell)) refl
       where
-        again : owned_by_another t.own (w.meta cell) ≡ true → Fits terms w p (at t here) (take_again t cell value left doomed (w.meta cell) (w.meta cell))
+        again : owned_by_another t.own (w.meta cell) ≡ true → Fits terms w p (at t here) (acquire_again t cell value left doomed (w.meta cell) (w.meta cell))
         again another =
             taken_again terms w p t here tt (phase_is terms w p here own is) (ending_is terms w p here own is) sound cell value left doomed (w.meta cell) (w.meta cell)
             (conflict_shown t cell (w.meta cell) (w.meta cell) another) write
 
         dooming : (b : Bool) → owned_by_another t.own (w.meta cell) ≡ true
-            → Fits terms w p (at t here) (if b then at t (SeeOwner cell value left (w.meta cell)) else take_again t cell value left doomed (w.meta cell) (w.meta cell))
-        dooming true another = to_taking terms w p t here tt (phase_is terms w p here own is) (ending_is terms w p here own is) sound (SeeOwner cell value left (w.meta cell)) tt tt
+            → Fits terms w p (at t here) (if b then at t (OwnerStatus cell value left (w.meta cell)) else acquire_again t cell value left doomed (w.meta cell) (w.meta cell))
+        dooming true another = to_taking terms w p t here tt (phase_is terms w p here own is) (ending_is terms w p here own is) sound (OwnerStatus cell value left (w.meta cell)) tt tt
             (write, record { another = another; found = found_now cell write.in_range })
         dooming false another = again another
 
         free : owned_by_another t.own (w.meta cell) ≡ false → (b : Bool) → nat_eq (w.meta cell).owner 0 ≡ b
-            → Fits terms w p (at t here) (if b then at t (Own cell value left doomed (w.meta cell) (w.meta cell) false) else take_again t cell value left doomed (w.meta cell) (w.meta cell))
+            → Fits terms w p (at t here) (if b then at t (Acquire cell value left doomed (w.meta cell) (w.meta cell) false) else acquire_again t cell value left doomed (w.meta cell) (w.meta cell))
         free none true test =
             let nobody : (w.meta cell).owner ≡ 0 = nobodys here tt is cell value write none in
-            to_taking terms w p t here tt (phase_is terms w p here own is) (ending_is terms w p here own is) sound (Own cell value left doomed (w.meta cell) (w.meta cell) false) tt tt
+            to_taking terms w p t here tt (phase_is terms w p here own is) (ending_is terms w p here own is) sound (Acquire cell value left doomed (w.meta cell) (w.meta cell) false) tt tt
             (write, found_now cell write.in_range, record { nobody = nobody; quiet = free_quiet lawful may terms w safe cell write.in_range nobody; alike = same_refl (w.meta cell); pending = λ never. cc })
         free none false test =
             let nobody : (w.meta cell).owner ≡ 0 = nobodys here tt is cell value write none in
             absurd (some_owner (w.meta cell).owner nobody test)
 
         go : (b : Bool) → owned_by_another t.own (w.meta cell) ≡ b → Fits terms w p (at t here) (if b
-            then taken t cell value left doomed (w.meta cell)
-            else if nat_eq (w.meta cell).owner 0 then at t (Own cell value left doomed (w.meta cell) (w.meta cell) false) else take_again t cell value left doomed (w.meta cell) (w.meta cell))
+            then doom_or_again t cell value left doomed (w.meta cell)
+            else if nat_eq (w.meta cell).owner 0 then at t (Acquire cell value left doomed (w.meta cell) (w.meta cell) false) else acquire_again t cell value left doomed (w.meta cell) (w.meta cell))
         go true another = dooming (dooms t.settings.policy && not doomed) another
         go false none = free none (nat_eq (w.meta cell).owner 0) refl
 
-    by_note : (noted : Option Note) → note_of t.notes cell ≡ noted → Fits terms w p (at t here) (acquired t cell value left doomed noted (w.meta cell))
+    by_note : (noted : Option Note) → note_of t.notes cell ≡ noted → Fits terms w p (at t here) (meta_acquired t cell value left doomed noted (w.meta cell))
     unfolding Evidence NamesNote
     by_note None is_none = tries
     by_note (Some note) is_noted = go (nat_eq note.version (w.meta cell).version) refl
@@ -182,15 +182,15 @@ module _ (lawful : List ℕ → Type 0) (may : List ℕ → List ℕ → Type 0)
         go true same = tries
         go false other = stopped_open terms w p t here tt (phase_is terms w p here own is) (ending_is terms w p here own is) sound (Stale note.addr note.version (w.meta cell)) (inl (apart note.version (w.meta cell).version other), names_found t.notes cell note (w.meta cell) is_noted)
 
-    pub keeps_acquire : Safe lawful may terms (stepped w p (Acquire cell value left doomed))
+    pub keeps_acquire : Safe lawful may terms (stepped w p (AcquireMeta cell value left doomed))
     unfolding next_at after_at words_after found seen_after since_at clock_after
     keeps_acquire = safe_seen lawful may terms w p safe caller here is _ (by_note (note_of t.notes cell) refl) (knows_attempt lawful may terms w p safe caller _ refl refl refl)
 
   -- ---- the exchange
 
-  module _ (cell value left : ℕ) (doomed : Bool) (first expected : Meta) (again : Bool) (is : t.stage ≡ Own cell value left doomed first expected again) where
+  module _ (cell value left : ℕ) (doomed : Bool) (first expected : Meta) (again : Bool) (is : t.stage ≡ Acquire cell value left doomed first expected again) where
     abbrev owning_here : Stage
-    owning_here = Own cell value left doomed first expected again
+    owning_here = Acquire cell value left doomed first expected again
 
     at_stage : IsToWrite terms t cell value × WasFound terms w cell expected × IsFree first expected again
     unfolding SafeStage
@@ -257,24 +257,24 @@ module _ (lawful : List ℕ → Type 0) (may : List ℕ → List ℕ → Type 0)
             both_set (w.meta cell) expected (alike same) still set lost
         never same (inr other) = let clash : true ≡ false = sym (alike same) ∙ other in cc
 
-    refuses : same_meta (w.meta cell) expected ≡ false → (again ≡ true) ⊎ (same_but_pending (w.meta cell) expected ≡ false) → Fits terms w p (at t owning_here) (take_again t cell value left doomed first (w.meta cell))
+    refuses : same_meta (w.meta cell) expected ≡ false → (again ≡ true) ⊎ (same_but_pending (w.meta cell) expected ≡ false) → Fits terms w p (at t owning_here) (acquire_again t cell value left doomed first (w.meta cell))
     refuses lost final =
         taken_again terms w p t owning_here tt (phase_is terms w p owning_here own is) (ending_is terms w p owning_here own is) sound cell value left doomed first (w.meta cell)
         (write_shown t cell first (w.meta cell) (lost_moved lost final)) at_stage.0
 
     lost_fits : same_meta (w.meta cell) expected ≡ false
-        → Fits terms w p (at t owning_here) (if not again && same_but_pending (w.meta cell) expected then at t (Own cell value left doomed first (w.meta cell) true) else take_again t cell value left doomed first (w.meta cell))
+        → Fits terms w p (at t owning_here) (if not again && same_but_pending (w.meta cell) expected then at t (Acquire cell value left doomed first (w.meta cell) true) else acquire_again t cell value left doomed first (w.meta cell))
     unfolding SafeStage
     lost_fits lost = go again (same_but_pending (w.meta cell) expected) refl refl
       where
         go : (second b : Bool) → again ≡ second → same_but_pending (w.meta cell) expected ≡ b
-            → Fits terms w p (at t owning_here) (if not second && b then at t (Own cell value left doomed first (w.meta cell) true) else take_again t cell value left doomed first (w.meta cell))
+            → Fits terms w p (at t owning_here) (if not second && b then at t (Acquire cell value left doomed first (w.meta cell) true) else acquire_again t cell value left doomed first (w.meta cell))
         go true b last same = refuses lost (inl last)
         go false false last same = refuses lost (inr same)
         go false true last same =
             let alike : Alike (w.meta cell) expected = alike_parts (w.meta cell) expected same in
             let before : Alike expected first = alike_parts expected first at_stage.2.alike in
-            to_taking terms w p t owning_here tt (phase_is terms w p owning_here own is) (ending_is terms w p owning_here own is) sound (Own cell value left doomed first (w.meta cell) true) tt tt (
+            to_taking terms w p t owning_here tt (phase_is terms w p owning_here own is) (ending_is terms w p owning_here own is) sound (Acquire cell value left doomed first (w.meta cell) true) tt tt (
               at_stage.0,
               found_now cell at_stage.0.in_range,
               record {
@@ -288,20 +288,20 @@ module _ (lawful : List ℕ → Type 0) (may : List ℕ → List ℕ → Type 0)
     lost_safe : same_meta (w.meta cell) expected ≡ false
         → Safe lawful may terms (with_view w p (record (w.view p) {
           attempt =
-              if not again && same_but_pending (w.meta cell) expected then at t (Own cell value left doomed first (w.meta cell) true) else take_again t cell value left doomed first (w.meta cell);
+              if not again && same_but_pending (w.meta cell) expected then at t (Acquire cell value left doomed first (w.meta cell) true) else acquire_again t cell value left doomed first (w.meta cell);
         }))
     lost_safe lost = safe_local lawful may terms w p safe caller owning_here is _ (lost_fits lost)
 
-    pub keeps_own : Safe lawful may terms (stepped w p (Own cell value left doomed first expected again))
-    unfolding next_at after_at words_after found seen_after since_at clock_after owning
+    pub keeps_own : Safe lawful may terms (stepped w p (Acquire cell value left doomed first expected again))
+    unfolding next_at after_at words_after found seen_after since_at clock_after exchanged
     keeps_own = go (same_meta (w.meta cell) expected) refl
       where
         go : (b : Bool) → same_meta (w.meta cell) expected ≡ b
             → Safe lawful may terms (with_view (if b then with_meta w cell (owned t.own expected) else w) p (record (w.view p) {
               attempt =
                   if b then done (record t { now = record t.now { writes = put t.now.writes cell value } })
-                  else if not again && same_but_pending (w.meta cell) expected then at t (Own cell value left doomed first (w.meta cell) true)
-                  else take_again t cell value left doomed first (w.meta cell);
+                  else if not again && same_but_pending (w.meta cell) expected then at t (Acquire cell value left doomed first (w.meta cell) true)
+                  else acquire_again t cell value left doomed first (w.meta cell);
             }))
         go true test = won_safe test
         go false lost = lost_safe lost

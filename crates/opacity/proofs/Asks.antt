@@ -8,8 +8,8 @@ use Rattle.stm_model.specs.declared.access.Ask.TheVariants.{Get, Set, Enter, Kee
 use Rattle.stm_model.specs.declared.cause.Cause.{Cause}
 use Rattle.stm_model.specs.declared.cause.Cause.TheVariants.{TooDeep}
 use Rattle.stm_model.specs.declared.note.Note.{Note}
-use Rattle.stm_model.specs.After.{at, done, give_back_on, note_of, stopped}
-use Rattle.stm_model.specs.Attempt.{cause_at, Acquire, Attempt, Due, FirstLook, Late, Ready, Stage, Stopped, Write, flies_at}
+use Rattle.stm_model.specs.After.{at, done, release_level_on, note_of, stopped}
+use Rattle.stm_model.specs.Attempt.{cause_at, AcquireMeta, Attempt, Due, ReadMeta, Late, Ready, Stage, Stopped, Write, flies_at}
 use Rattle.stm_model.specs.CellsState.{Book, outer}
 use Rattle.stm_model.specs.Evidence.{Evidence}
 use Rattle.stm_model.specs.Heap.{put, writes_to}
@@ -27,7 +27,7 @@ use Rattle.opacity.proofs.Stands.{kept_flying, IsPlain, Follows, Sound}
 use Rattle.opacity.proofs.Walks.{keys-append, keys-put_written, writes_to_keys}
 
 -- What is given back goes on as the same attempt.
-pub given_follows : (t : Attempt) (due : List Due) (here : Stage) (kept behind : List Write) → HasBegun here → flies_at here ≡ true → t.ending ≡ None → Follows (at t here) (give_back_on (record t { due = due }) kept behind)
+pub given_follows : (t : Attempt) (due : List Due) (here : Stage) (kept behind : List Write) → HasBegun here → flies_at here ≡ true → t.ending ≡ None → Follows (at t here) (release_level_on (record t { due = due }) kept behind)
 unfolding HasBegun
 given_follows t due here kept [] begun flies none = record { serial = refl; phase = refl; prefix = omega arith; began = begun; begun = tt; kept = λ k. kept_flying here t.ending flies; undecided = λ k undecided. undecided }
 given_follows t due here kept (write ∷ behind) begun flies none = record { serial = refl; phase = refl; prefix = omega arith; began = begun; begun = tt; kept = λ k. kept_flying here t.ending flies; undecided = λ k undecided. undecided }
@@ -56,7 +56,7 @@ module _ (terms : Terms) (w : World) (p : ℕ) (t : Attempt) (here : Stage) (is_
   noted : (cell : ℕ) → cell < cells_in terms → writes_to t.now.writes cell ≡ false → (found : Option Note) → note_of t.notes cell ≡ found → Fits terms w p (at t here) (read_noted t cell found)
   unfolding SafeStage
   noted cell within none (Some note) is = to_open (Ready (Some note.value)) tt tt tt
-  noted cell within none None is = to_open (FirstLook cell (looks t.settings.policy)) tt tt (record { in_range = within; unwritten = none; unnoted = is })
+  noted cell within none None is = to_open (ReadMeta cell (looks t.settings.policy)) tt tt (record { in_range = within; unwritten = none; unnoted = is })
 
   buffered : (cell : ℕ) → cell < cells_in terms → (found : Option ℕ) → lookup (nat_eq cell) t.now.writes ≡ found → Fits terms w p (at t here) (read_buffered t cell found)
   unfolding SafeStage
@@ -68,7 +68,7 @@ module _ (terms : Terms) (w : World) (p : ℕ) (t : Attempt) (here : Stage) (is_
   set cell value within word = go (writes_to t.now.writes cell) refl
     where
       go : (b : Bool) → writes_to t.now.writes cell ≡ b
-          → Fits terms w p (at t here) (if b then done (record t { now = record t.now { writes = put t.now.writes cell value } }) else at t (Acquire cell value (looks t.settings.policy) false))
+          → Fits terms w p (at t here) (if b then done (record t { now = record t.now { writes = put t.now.writes cell value } }) else at t (AcquireMeta cell value (looks t.settings.policy) false))
       go true is =
           open_fits terms w p t (record t { now = record t.now { writes = put t.now.writes cell value } }) here (Ready None) is_open tt tt phase ending
           (record {
@@ -80,7 +80,7 @@ module _ (terms : Terms) (w : World) (p : ℕ) (t : Attempt) (here : Stage) (is_
             sound = put_written terms w p t sound cell value word is;
           })
           tt
-      go false is = to_open (Acquire cell value (looks t.settings.policy) false) tt tt (record { in_range = within; unwritten = is; word = word })
+      go false is = to_open (AcquireMeta cell value (looks t.settings.policy) false) tt tt (record { in_range = within; unwritten = is; word = word })
 
   with_saved : (saved : List Book) (there : Stage) → IsOpen there → IfSome (cause_at there) (Shows t) → LevelsNest (keys_of t.now.writes) saved → SafeStage terms w (record t { saved = saved }) there
       → Fits terms w p (at t here) (at (record t { saved = saved }) there)
@@ -97,10 +97,10 @@ module _ (terms : Terms) (w : World) (p : ℕ) (t : Attempt) (here : Stage) (is_
       go true = with_saved (t.now ∷ t.saved) (Ready None) tt tt (([], sym (append-nil (keys_of t.now.writes))), sound.entry.words, sound.levels) tt
       go false = stopped_open terms w p t here is_open phase ending sound (TooDeep deepest) (refl, tt)
 
-  alike_given : (kept behind : List Write) (gives : GivesBack t kept behind) → gives.given ≡ [] → t.ending ≡ None → (cell : ℕ) → AlikeAt cell (give_back_on t kept behind) (at t here)
+  alike_given : (kept behind : List Write) (gives : GivesBack t kept behind) → gives.given ≡ [] → t.ending ≡ None → (cell : ℕ) → AlikeAt cell (release_level_on t kept behind) (at t here)
   alike_given kept behind gives none undecided cell =
       let facts = open_facts here is_open in
-      let these : HoldsThese (give_back_on t kept behind) kept behind cell = given_holds t kept behind cell gives undecided in
+      let these : HoldsThese (release_level_on t kept behind) kept behind cell = given_holds t kept behind cell gives undecided in
       let whole : keys_of (kept ++ behind) ≡ keys_of t.now.writes = keys-append kept behind ∙ sym (whole_of gives.given none gives.whole) in
       record {
         held = rw (these.held, facts.held t.now.writes) (writes_to_keys (kept ++ behind) t.now.writes cell whole);

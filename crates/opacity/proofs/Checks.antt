@@ -10,8 +10,8 @@ use Rattle.stm_model.specs.declared.ending.Ending.{Ending}
 use Rattle.stm_model.specs.declared.ending.Ending.TheVariants.{Committed}
 use Rattle.stm_model.specs.declared.note.Note.{Note}
 use Rattle.stm_model.specs.Accesses.{next_at}
-use Rattle.stm_model.specs.After.{after_at, at, check_on, checked, decided, rolled, run_all, store_on}
-use Rattle.stm_model.specs.Attempt.{Attempt, Check, Decide, Sample, Stage, Write, held_at, flies_at, has_prepared, stamp_of, unmarked_at, unstored_at}
+use Rattle.stm_model.specs.After.{after_at, at, validate_on, note_validated, decided, rolled, run_all, store_on}
+use Rattle.stm_model.specs.Attempt.{Attempt, CommitNote, Decide, CommitClock, Stage, Write, held_at, flies_at, has_prepared, stamp_of, unmarked_at, unstored_at}
 use Rattle.stm_model.specs.Handlers.{committing}
 use Rattle.stm_model.specs.Evidence.{Evidence}
 use Rattle.stm_model.specs.History.{IsCurrent}
@@ -30,8 +30,8 @@ use Rattle.opacity.proofs.Stepping.{stepped}
 
 -- Where it is to be decided, an attempt holds its cells, all of them marked.
 abbrev pub Weighs : Stage → Type 0
-Weighs (Sample lost) = Unit {0}
-Weighs (Check lost clock note behind) = Unit {0}
+Weighs (CommitClock lost) = Unit {0}
+Weighs (CommitNote lost clock note behind) = Unit {0}
 Weighs (Decide lost clock) = Unit {0}
 Weighs stage = ⊥
 
@@ -48,14 +48,14 @@ pub record WeighFacts (stage : Stage) : Type 0 where
 
 weigh_facts : (stage : Stage) → Weighs stage → WeighFacts stage
 unfolding held_at unmarked_at unstored_at flies_at HasBegun PhaseAt EndingAt
-weigh_facts (Sample lost) weighs = record { held = λ writes. refl; unmarked = λ phase writes. refl; unstored = refl; flies = refl; begun = tt; phase_from = λ ending phase is. is; phase_to = λ ending phase is. is; ending_from = λ ending is. is; ending_to = λ ending is. is }
-weigh_facts (Check lost clock note behind) weighs = record { held = λ writes. refl; unmarked = λ phase writes. refl; unstored = refl; flies = refl; begun = tt; phase_from = λ ending phase is. is; phase_to = λ ending phase is. is; ending_from = λ ending is. is; ending_to = λ ending is. is }
+weigh_facts (CommitClock lost) weighs = record { held = λ writes. refl; unmarked = λ phase writes. refl; unstored = refl; flies = refl; begun = tt; phase_from = λ ending phase is. is; phase_to = λ ending phase is. is; ending_from = λ ending is. is; ending_to = λ ending is. is }
+weigh_facts (CommitNote lost clock note behind) weighs = record { held = λ writes. refl; unmarked = λ phase writes. refl; unstored = refl; flies = refl; begun = tt; phase_from = λ ending phase is. is; phase_to = λ ending phase is. is; ending_from = λ ending is. is; ending_to = λ ending is. is }
 weigh_facts (Decide lost clock) weighs = record { held = λ writes. refl; unmarked = λ phase writes. refl; unstored = refl; flies = refl; begun = tt; phase_from = λ ending phase is. is; phase_to = λ ending phase is. is; ending_from = λ ending is. is; ending_to = λ ending is. is }
 weigh_facts stage weighs = absurd weighs
 
 weighs_plain : (stage : Stage) → Weighs stage → IsPlain stage
-weighs_plain (Sample lost) weighs = tt
-weighs_plain (Check lost clock note behind) weighs = tt
+weighs_plain (CommitClock lost) weighs = tt
+weighs_plain (CommitNote lost clock note behind) weighs = tt
 weighs_plain (Decide lost clock) weighs = tt
 weighs_plain stage weighs = absurd weighs
 
@@ -112,14 +112,14 @@ module _ (terms : Terms) (w : World) (p : ℕ) (t : Attempt) (here : Stage) (wei
   below_limit : (clock limit own : ℕ) → own ≡ limit → clock ≤ limit → nat_eq clock own ≡ false → clock < limit
   below_limit clock limit own is low test = grind (arith, nat_tests)
 
-  checks : (lost clock : ℕ) (behind : List Note) → 0 < length t.now.writes → clock ≤ terms.limit → WasSampled w t clock behind → Fits terms w p (at t here) (check_on t lost clock behind)
-  unfolding check_on SafeStage Evidence NamesNote
+  checks : (lost clock : ℕ) (behind : List Note) → 0 < length t.now.writes → clock ≤ terms.limit → WasSampled w t clock behind → Fits terms w p (at t here) (validate_on t lost clock behind)
+  unfolding validate_on SafeStage Evidence NamesNote
   checks lost clock [] some low sampled = go (nat_eq clock t.settings.clock) refl
     where
       go : (b : Bool) → nat_eq clock t.settings.clock ≡ b → Fits terms w p (at t here) (if b then rolled (record t { prefix = clock }) (ClockEnd clock) else at t (Decide lost clock))
       go true end = rolled_fits terms w p t (record t { prefix = clock }) here (ClockEnd clock) (same_number clock t.settings.clock end, tt) may_roll (later clock sampled) refl refl sampled.low refl
       go false room = to_weigh (Decide lost clock) tt (some, sampled, below_limit clock terms.limit t.settings.clock sound.limit low room)
-  checks lost clock (note ∷ behind) some low sampled = to_weigh (Check lost clock note behind) tt (some, sampled)
+  checks lost clock (note ∷ behind) some low sampled = to_weigh (CommitNote lost clock note behind) tt (some, sampled)
 
 module _ (lawful : List ℕ → Type 0) (may : List ℕ → List ℕ → Type 0) (terms : Terms) (w : World) (p : ℕ) (safe : Safe lawful may terms w) (caller : IsCaller terms p) where
   abbrev t : Attempt
@@ -131,10 +131,10 @@ module _ (lawful : List ℕ → Type 0) (may : List ℕ → List ℕ → Type 0)
   sound : Sound terms w p t
   sound = sound_of terms w p t own
 
-  pub keeps_sample : (lost : ℕ) → t.stage ≡ Sample lost → Safe lawful may terms (stepped w p (Sample lost))
+  pub keeps_sample : (lost : ℕ) → t.stage ≡ CommitClock lost → Safe lawful may terms (stepped w p (CommitClock lost))
   unfolding next_at after_at words_after found seen_after since_at clock_after SafeStage
   keeps_sample lost is =
-      let stage = Sample lost in
+      let stage = CommitClock lost in
       safe_seen lawful may terms w p safe caller stage is _
       (checks terms w p t stage tt (phase_is terms w p stage own is) (ending_is terms w p stage own is) sound lost w.clock t.notes (stage_is terms w p stage own is) safe.limit
       (sampled_start w t w.clock (omega (arith, own.prefix, safe.clock)) (omega (arith, safe.clock))))
@@ -143,13 +143,13 @@ module _ (lawful : List ℕ → Type 0) (may : List ℕ → List ℕ → Type 0)
   no_stamp : (stage : Stage) → Weighs stage → t.stage ≡ stage → stamp_of t ≡ 0
   no_stamp stage weighs is = let none = (weigh_facts stage weighs).ending_from t.ending (ending_is terms w p stage own is) in rw none refl
 
-  pub keeps_check : (lost clock : ℕ) (note : Note) (behind : List Note) → t.stage ≡ Check lost clock note behind → Safe lawful may terms (stepped w p (Check lost clock note behind))
-  unfolding next_at after_at words_after found seen_after since_at clock_after SafeStage checked Evidence NamesNote
+  pub keeps_check : (lost clock : ℕ) (note : Note) (behind : List Note) → t.stage ≡ CommitNote lost clock note behind → Safe lawful may terms (stepped w p (CommitNote lost clock note behind))
+  unfolding next_at after_at words_after found seen_after since_at clock_after SafeStage note_validated Evidence NamesNote
   keeps_check lost clock note behind is =
       safe_seen lawful may terms w p safe caller stage is _ (go (still_has t.own note.version (w.meta note.addr.0)) refl) (knows_attempt lawful may terms w p safe caller _ refl refl refl)
     where
       stage : Stage
-      stage = Check lost clock note behind
+      stage = CommitNote lost clock note behind
 
       at_stage : (0 < length t.now.writes) × WasSampled w t clock (note ∷ behind)
       at_stage = stage_is terms w p stage own is
@@ -158,7 +158,7 @@ module _ (lawful : List ℕ → Type 0) (may : List ℕ → List ℕ → Type 0)
       sampled = at_stage.1
 
       go : (b : Bool) → still_has t.own note.version (w.meta note.addr.0) ≡ b
-          → Fits terms w p (at t stage) (if b then check_on t lost clock behind else rolled t (Stale note.addr note.version (w.meta note.addr.0)))
+          → Fits terms w p (at t stage) (if b then validate_on t lost clock behind else rolled t (Stale note.addr note.version (w.meta note.addr.0)))
       go true same =
           let tests = and_parts (nat_eq (w.meta note.addr.0).version note.version) (not (changing_by_another t.own (w.meta note.addr.0))) same in
           let within : note.addr.0 < cells_in terms = all_at (λ each. each.addr.0 < cells_in terms) sampled.checked behind t.notes note sampled.notes own.noted_cells in
@@ -177,7 +177,7 @@ module _ (lawful : List ℕ → Type 0) (may : List ℕ → List ℕ → Type 0)
   turned : (m n : ℕ) → nat_eq m n ≡ nat_eq n m
   turned m n = grind (arith, nat_tests)
 
-  lost_fits : (lost clock : ℕ) → t.stage ≡ Decide lost clock → nat_eq w.clock clock ≡ false → Fits terms w p (at t (Decide lost clock)) (if nat_lt lost t.settings.tries then at t (Sample (suc lost)) else rolled t (ClockMoved clock w.clock))
+  lost_fits : (lost clock : ℕ) → t.stage ≡ Decide lost clock → nat_eq w.clock clock ≡ false → Fits terms w p (at t (Decide lost clock)) (if nat_lt lost t.settings.tries then at t (CommitClock (suc lost)) else rolled t (ClockMoved clock w.clock))
   unfolding SafeStage Evidence NamesNote
   lost_fits lost clock is other = go (nat_lt lost t.settings.tries)
     where
@@ -190,8 +190,8 @@ module _ (lawful : List ℕ → Type 0) (may : List ℕ → List ℕ → Type 0)
       moved_clock : (found clock : ℕ) → nat_eq found clock ≡ false → clock ≤ found → clock < found
       moved_clock found clock test low = grind (arith, nat_tests)
 
-      go : (b : Bool) → Fits terms w p (at t stage) (if b then at t (Sample (suc lost)) else rolled t (ClockMoved clock w.clock))
-      go true = to_weigh terms w p t stage tt (phase_is terms w p stage own is) (ending_is terms w p stage own is) sound (Sample (suc lost)) tt at_stage.0
+      go : (b : Bool) → Fits terms w p (at t stage) (if b then at t (CommitClock (suc lost)) else rolled t (ClockMoved clock w.clock))
+      go true = to_weigh terms w p t stage tt (phase_is terms w p stage own is) (ending_is terms w p stage own is) sound (CommitClock (suc lost)) tt at_stage.0
       go false = rolled_fits terms w p t t stage (ClockMoved clock w.clock) (moved_clock w.clock clock other (omega (arith, at_stage.1.high, safe.clock)), tt) (may_roll terms w p t stage tt (phase_is terms w p stage own is) (ending_is terms w p stage own is) sound) sound refl refl (omega arith) refl
 
   -- Its writes meet what is owed for what it has read.
@@ -202,7 +202,7 @@ module _ (lawful : List ℕ → Type 0) (may : List ℕ → List ℕ → Type 0)
       go : (b : Bool) → nat_eq w.clock clock ≡ b
           → Safe lawful may terms (with_view (if b then record w { clock = suc clock; history = w.history ++ entry_of t ∷ [] } else w) p (record (w.view p) {
             attempt = if b then store_on (record t { ending = Some (Committed (suc clock)); due = run_all (committing t.now.hooks) }) t.now.writes
-                else if nat_lt lost t.settings.tries then at t (Sample (suc lost)) else rolled t (ClockMoved clock w.clock);
+                else if nat_lt lost t.settings.tries then at t (CommitClock (suc lost)) else rolled t (ClockMoved clock w.clock);
             seen = if b then suc clock else (w.view p).seen;
           }))
       go true won = decided_safe lawful may terms w p safe caller lost clock (run_all (committing t.now.hooks)) is (same_number w.clock clock won) (owes (same_number w.clock clock won))

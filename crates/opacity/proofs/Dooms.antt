@@ -9,8 +9,8 @@ use Rattle.meta_word.specs.declared.status.Phase.{Phase}
 use Rattle.meta_word.specs.declared.status.Phase.TheVariants.{Active, Doomed, Idle, Preparing}
 use Rattle.meta_word.specs.declared.status.TxnStatus.{TxnStatus}
 use Rattle.stm_model.specs.Accesses.{doomed, next_at}
-use Rattle.stm_model.specs.After.{after_at, at, is_active, owner_seen, owner_seen_again, same_status, take_again}
-use Rattle.stm_model.specs.Attempt.{Attempt, DoomOwner, SeeAgain, SeeOwner, Stage}
+use Rattle.stm_model.specs.After.{after_at, at, is_active, owner_status_loaded, owner_validated, same_status, acquire_again}
+use Rattle.stm_model.specs.Attempt.{Attempt, DoomOwner, OwnerMeta, OwnerStatus, Stage}
 use Rattle.stm_model.specs.Safe.{IsToWrite, Safe, SafeAttempt, SafeStage, WasTaken}
 use Rattle.stm_model.specs.World.{IsCaller, Terms, World, attempt_of, words_after, clock_after, found, replaced, seen_after, since_at, with_status, with_view}
 use Rattle.opacity.proofs.Acquires.{nobodys, found_now, taken_again, to_taking}
@@ -68,34 +68,34 @@ module _ (lawful : List ℕ → Type 0) (may : List ℕ → List ℕ → Type 0)
   sound : Sound terms w p t
   sound = sound_of terms w p t own
 
-  pub keeps_see_owner : (cell value left : ℕ) (first : Meta) → t.stage ≡ SeeOwner cell value left first → Safe lawful may terms (stepped w p (SeeOwner cell value left first))
-  unfolding next_at after_at words_after found seen_after since_at clock_after SafeStage owner_seen
+  pub keeps_see_owner : (cell value left : ℕ) (first : Meta) → t.stage ≡ OwnerStatus cell value left first → Safe lawful may terms (stepped w p (OwnerStatus cell value left first))
+  unfolding next_at after_at words_after found seen_after since_at clock_after SafeStage owner_status_loaded
   keeps_see_owner cell value left first is =
       safe_seen lawful may terms w p safe caller stage is _ (go (is_active (w.status first.owner).phase) refl) (knows_attempt lawful may terms w p safe caller _ refl refl refl)
     where
       stage : Stage
-      stage = SeeOwner cell value left first
+      stage = OwnerStatus cell value left first
 
       at_stage : IsToWrite terms t cell value × WasTaken terms w t cell first
       at_stage = stage_is terms w p stage own is
 
-      go : (b : Bool) → is_active (w.status first.owner).phase ≡ b → Fits terms w p (at t stage) (if b then at t (SeeAgain cell value left first (w.status first.owner)) else take_again t cell value left true first first)
-      go true active = to_taking terms w p t stage tt (phase_is terms w p stage own is) (ending_is terms w p stage own is) sound (SeeAgain cell value left first (w.status first.owner)) tt tt (at_stage.0, at_stage.1, active_is _ active)
+      go : (b : Bool) → is_active (w.status first.owner).phase ≡ b → Fits terms w p (at t stage) (if b then at t (OwnerMeta cell value left first (w.status first.owner)) else acquire_again t cell value left true first first)
+      go true active = to_taking terms w p t stage tt (phase_is terms w p stage own is) (ending_is terms w p stage own is) sound (OwnerMeta cell value left first (w.status first.owner)) tt tt (at_stage.0, at_stage.1, active_is _ active)
       go false other = taken_again terms w p t stage tt (phase_is terms w p stage own is) (ending_is terms w p stage own is) sound cell value left true first first (conflict_shown t cell first first at_stage.1.another) at_stage.0
 
-  pub keeps_see_again : (cell value left : ℕ) (first : Meta) (status : TxnStatus) → t.stage ≡ SeeAgain cell value left first status → Safe lawful may terms (stepped w p (SeeAgain cell value left first status))
-  unfolding next_at after_at words_after found seen_after since_at clock_after SafeStage owner_seen_again
+  pub keeps_see_again : (cell value left : ℕ) (first : Meta) (status : TxnStatus) → t.stage ≡ OwnerMeta cell value left first status → Safe lawful may terms (stepped w p (OwnerMeta cell value left first status))
+  unfolding next_at after_at words_after found seen_after since_at clock_after SafeStage owner_validated
   keeps_see_again cell value left first status is =
       safe_seen lawful may terms w p safe caller stage is _ (go (nat_eq (w.meta cell).owner first.owner && not (w.meta cell).changing) refl) (knows_attempt lawful may terms w p safe caller _ refl refl refl)
     where
       stage : Stage
-      stage = SeeAgain cell value left first status
+      stage = OwnerMeta cell value left first status
 
       at_stage : IsToWrite terms t cell value × WasTaken terms w t cell first × (status.phase ≡ Active)
       at_stage = stage_is terms w p stage own is
 
       go : (b : Bool) → (nat_eq (w.meta cell).owner first.owner && not (w.meta cell).changing) ≡ b
-          → Fits terms w p (at t stage) (if b then at t (DoomOwner cell value left first (w.meta cell) status) else take_again t cell value left true first (w.meta cell))
+          → Fits terms w p (at t stage) (if b then at t (DoomOwner cell value left first (w.meta cell) status) else acquire_again t cell value left true first (w.meta cell))
       go true same =
           let owner : (w.meta cell).owner ≡ first.owner = same_number _ _ (and_parts (nat_eq (w.meta cell).owner first.owner) (not (w.meta cell).changing) same).0 in
           let taken : WasTaken terms w t cell (w.meta cell) = record { another = rw owner at_stage.1.another; found = found_now lawful may terms w p safe caller cell at_stage.0.in_range } in
@@ -114,7 +114,7 @@ module _ (lawful : List ℕ → Type 0) (may : List ℕ → List ℕ → Type 0)
     unfolding SafeStage
     at_stage = stage_is terms w p here own is
 
-    goes : Fits terms w p (at t here) (take_again t cell value left true first second)
+    goes : Fits terms w p (at t here) (acquire_again t cell value left true first second)
     goes = taken_again terms w p t here tt (phase_is terms w p here own is) (ending_is terms w p here own is) sound cell value left true first second (conflict_shown t cell first second at_stage.2.another) at_stage.0
 
     other : first.owner ≢ p
@@ -129,10 +129,10 @@ module _ (lawful : List ℕ → Type 0) (may : List ℕ → List ℕ → Type 0)
     ]
 
     doomed_safe : same_status (w.status first.owner) status ≡ true
-        → Safe lawful may terms (with_view (with_status w first.owner (doomed status)) p (record (w.view p) { attempt = take_again t cell value left true first second }))
+        → Safe lawful may terms (with_view (with_status w first.owner (doomed status)) p (record (w.view p) { attempt = acquire_again t cell value left true first second }))
     doomed_safe same =
         let apart : p ≢ first.owner = λ at. other (sym at) in
-        safe_others lawful may terms w p safe caller (replaced w.status first.owner (doomed status)) (record (w.view p) { attempt = take_again t cell value left true first second }) here is goes
+        safe_others lawful may terms w p safe caller (replaced w.status first.owner (doomed status)) (record (w.view p) { attempt = acquire_again t cell value left true first second }) here is goes
         (knows_attempt lawful may terms w p safe caller _ refl refl refl) (λ q not_own. dooms_one same q) (replaced_else w.status first.owner (doomed status) p apart)
 
     pub keeps_doom_owner : Safe lawful may terms (stepped w p (DoomOwner cell value left first second status))
@@ -140,6 +140,6 @@ module _ (lawful : List ℕ → Type 0) (may : List ℕ → List ℕ → Type 0)
     keeps_doom_owner = go (same_status (w.status first.owner) status) refl
       where
         go : (b : Bool) → same_status (w.status first.owner) status ≡ b
-            → Safe lawful may terms (with_view (if b then with_status w first.owner (doomed status) else w) p (record (w.view p) { attempt = take_again t cell value left true first second }))
+            → Safe lawful may terms (with_view (if b then with_status w first.owner (doomed status) else w) p (record (w.view p) { attempt = acquire_again t cell value left true first second }))
         go true same = doomed_safe same
         go false lost = safe_seen lawful may terms w p safe caller here is _ goes (knows_attempt lawful may terms w p safe caller _ refl refl refl)

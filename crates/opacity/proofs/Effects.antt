@@ -3,7 +3,7 @@ use Rattle.std.proofs.Common.{◌≡◌, ◌≢◌, ◌⊎◌, ◌++◌, ℕ, na
 use Rattle.std.proofs.lemmas.Bool.{cases_eq}
 use Rattle.meta_word.specs.declared.status.Phase.TheVariants.{Active, Doomed, Idle, Preparing}
 use Rattle.meta_word.specs.declared.status.TxnStatus.{TxnStatus}
-use Rattle.stm_model.specs.Accesses.{Act, StoreStatus, TakeClock, TakeMeta, TakeStatus, active, doomed, next, next_at, unless_due}
+use Rattle.stm_model.specs.Accesses.{Act, StoreStatus, ExchangeClock, ExchangeMeta, ExchangeStatus, active, doomed, next, next_at, unless_due}
 use Rattle.stm_model.specs.After.{same_meta, same_status}
 use Rattle.stm_model.specs.Attempt.{Announce, Attempt, Close, Due, DoomOwner, Prepare, Stage}
 use Rattle.stm_model.specs.Safe.{Safe, SafeStage}
@@ -23,9 +23,9 @@ if_view false v w same = refl
 
 pub words_view : (w : World) (t : Attempt) (this : Act) → (words_after w t this).view ≡ w.view
 unfolding words_after
-words_view w t (TakeClock old) = if_view (nat_eq w.clock old) (record w { clock = suc old; history = w.history ++ entry_of t ∷ [] }) w refl
-words_view w t (TakeStatus p old new) = if_view (same_status (w.status p) old) (with_status w p new) w refl
-words_view w t (TakeMeta cell old new) = if_view (same_meta (w.meta cell) old) _ w refl
+words_view w t (ExchangeClock old) = if_view (nat_eq w.clock old) (record w { clock = suc old; history = w.history ++ entry_of t ∷ [] }) w refl
+words_view w t (ExchangeStatus p old new) = if_view (same_status (w.status p) old) (with_status w p new) w refl
+words_view w t (ExchangeMeta cell old new) = if_view (same_meta (w.meta cell) old) _ w refl
 words_view w t this = refl
 
 stepped_view : (w : World) (p : ℕ) (stage : Stage) (this : Option Act) (q : ℕ) → q ≢ p → (stepped_by w p stage this).view q ≡ w.view q
@@ -47,7 +47,7 @@ others_views w (Waits p cell) q other = replaced_else w.view p _ q other
 
 -- The history stays, or this access wins the exchange of the clock, and leaves the attempt's entry.
 abbrev pub LeavesOwn : World → World → Attempt → Option Act → Type 0
-LeavesOwn w v t this = (v.history ≡ w.history) ⊎ ((this ≡ Some (TakeClock w.clock)) × (v.history ≡ w.history ++ entry_of t ∷ []))
+LeavesOwn w v t this = (v.history ≡ w.history) ⊎ ((this ≡ Some (ExchangeClock w.clock)) × (v.history ≡ w.history ++ entry_of t ∷ []))
 
 if_history : (b : Bool) (v w : World) → v.history ≡ w.history → (if b then v else w).history ≡ w.history
 if_history true v w same = same
@@ -55,13 +55,13 @@ if_history false v w same = refl
 
 words_history : (w : World) (t : Attempt) (this : Act) → LeavesOwn w (words_after w t this) t (Some this)
 unfolding words_after
-words_history w t (TakeClock old) = go (nat_eq w.clock old) refl
+words_history w t (ExchangeClock old) = go (nat_eq w.clock old) refl
   where
-    go : (b : Bool) → nat_eq w.clock old ≡ b → LeavesOwn w (if b then record w { clock = suc old; history = w.history ++ entry_of t ∷ [] } else w) t (Some (TakeClock old))
-    go true won = inr (ap (λ (n : ℕ). Some (TakeClock n)) (sym (same_number w.clock old won)), refl)
+    go : (b : Bool) → nat_eq w.clock old ≡ b → LeavesOwn w (if b then record w { clock = suc old; history = w.history ++ entry_of t ∷ [] } else w) t (Some (ExchangeClock old))
+    go true won = inr (ap (λ (n : ℕ). Some (ExchangeClock n)) (sym (same_number w.clock old won)), refl)
     go false lost = inl refl
-words_history w t (TakeStatus p old new) = inl (if_history (same_status (w.status p) old) (with_status w p new) w refl)
-words_history w t (TakeMeta cell old new) = inl (if_history (same_meta (w.meta cell) old) _ w refl)
+words_history w t (ExchangeStatus p old new) = inl (if_history (same_status (w.status p) old) (with_status w p new) w refl)
+words_history w t (ExchangeMeta cell old new) = inl (if_history (same_meta (w.meta cell) old) _ w refl)
 words_history w t this = inl refl
 
 stepped_history : (w : World) (p : ℕ) (stage : Stage) (this : Option Act) → LeavesOwn w (stepped_by w p stage this) (attempt_of w p) this
@@ -86,7 +86,7 @@ history_after w (Waits p cell) = inl refl
 -- The access leaves all status words.
 abbrev LeavesStatus : Option Act → Type 0
 LeavesStatus (Some (StoreStatus p new)) = ⊥
-LeavesStatus (Some (TakeStatus p old new)) = ⊥
+LeavesStatus (Some (ExchangeStatus p old new)) = ⊥
 LeavesStatus this = Unit {0}
 
 if_status : (b : Bool) (v w : World) → v.status ≡ w.status → (if b then v else w).status ≡ w.status
@@ -96,9 +96,9 @@ if_status false v w same = refl
 words_status : (w : World) (t : Attempt) (this : Act) → LeavesStatus (Some this) → (words_after w t this).status ≡ w.status
 unfolding words_after
 words_status w t (StoreStatus p new) leaves = absurd leaves
-words_status w t (TakeStatus p old new) leaves = absurd leaves
-words_status w t (TakeClock old) leaves = if_status (nat_eq w.clock old) (record w { clock = suc old; history = w.history ++ entry_of t ∷ [] }) w refl
-words_status w t (TakeMeta cell old new) leaves = if_status (same_meta (w.meta cell) old) _ w refl
+words_status w t (ExchangeStatus p old new) leaves = absurd leaves
+words_status w t (ExchangeClock old) leaves = if_status (nat_eq w.clock old) (record w { clock = suc old; history = w.history ++ entry_of t ∷ [] }) w refl
+words_status w t (ExchangeMeta cell old new) leaves = if_status (same_meta (w.meta cell) old) _ w refl
 words_status w t this leaves = refl
 
 stepped_status : (w : World) (p : ℕ) (stage : Stage) (this : Option Act) → LeavesStatus this → (stepped_by w p stage this).status ≡ w.status

@@ -4,7 +4,7 @@ use Rattle.meta_word.specs.declared.status.Phase.{Phase}
 use Rattle.meta_word.specs.declared.status.Phase.TheVariants.{Active}
 use Rattle.stm_model.specs.declared.ending.Ending.{Ending}
 use Rattle.stm_model.specs.After.{at}
-use Rattle.stm_model.specs.Attempt.{Attempt, Due, Stage, Write, Announce, Begin, GiveBack, Mark, Sample, Check, Decide, StoreValues, Release, RollBack, Close, Ended, cause_at, held_at, unmarked_at, unstored_at, flies_at}
+use Rattle.stm_model.specs.Attempt.{Attempt, Due, Stage, Write, Announce, Begin, ReleaseLevel, Mark, CommitClock, CommitNote, Decide, StoreValues, Release, RollBack, Close, Ended, cause_at, held_at, unmarked_at, unstored_at, flies_at}
 use Rattle.stm_model.specs.Handlers.{Handlers}
 use Rattle.stm_model.specs.Heap.{writes_to}
 use Rattle.stm_model.specs.Safe.{EndingAt, HasBegun, PhaseAt, Safe, SafeAttempt, SafeStage, EndsSo}
@@ -59,10 +59,10 @@ ending_is terms w p stage safe is = subst (λ (s : Stage). EndingAt s (attempt_o
 abbrev pub IsOpen : Stage → Type 0
 IsOpen Announce = ⊥
 IsOpen Begin = ⊥
-IsOpen (GiveBack kept write behind) = ⊥
+IsOpen (ReleaseLevel kept write behind) = ⊥
 IsOpen (Mark write behind) = ⊥
-IsOpen (Sample lost) = ⊥
-IsOpen (Check lost clock note behind) = ⊥
+IsOpen (CommitClock lost) = ⊥
+IsOpen (CommitNote lost clock note behind) = ⊥
 IsOpen (Decide lost clock) = ⊥
 IsOpen (StoreValues write behind) = ⊥
 IsOpen (Release write behind) = ⊥
@@ -86,10 +86,10 @@ pub open_facts : (stage : Stage) → IsOpen stage → OpenFacts stage
 unfolding held_at unmarked_at unstored_at flies_at HasBegun PhaseAt EndingAt
 open_facts Announce is_open = absurd is_open
 open_facts Begin is_open = absurd is_open
-open_facts (GiveBack kept write behind) is_open = absurd is_open
+open_facts (ReleaseLevel kept write behind) is_open = absurd is_open
 open_facts (Mark write behind) is_open = absurd is_open
-open_facts (Sample lost) is_open = absurd is_open
-open_facts (Check lost clock note behind) is_open = absurd is_open
+open_facts (CommitClock lost) is_open = absurd is_open
+open_facts (CommitNote lost clock note behind) is_open = absurd is_open
 open_facts (Decide lost clock) is_open = absurd is_open
 open_facts (StoreValues write behind) is_open = absurd is_open
 open_facts (Release write behind) is_open = absurd is_open

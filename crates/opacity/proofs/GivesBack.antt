@@ -6,8 +6,8 @@ use Rattle.std.proofs.lemmas.Bool.{or_parts}
 use Rattle.meta_word.specs.declared.meta.Meta.{Meta}
 use Rattle.meta_word.specs.declared.status.Phase.TheVariants.{Active, Preparing}
 use Rattle.stm_model.specs.Accesses.{next_at}
-use Rattle.stm_model.specs.After.{after_at, at, give_back_on, mark_on, ring_if, roll_on}
-use Rattle.stm_model.specs.Attempt.{Attempt, Close, Due, GiveBack, Mark, RollBack, Sample, Write, held_at, has_prepared, unmarked_at, unstored_at, flies_at, holds, marks, stamp_of}
+use Rattle.stm_model.specs.After.{after_at, at, release_level_on, mark_on, ring_if, roll_on}
+use Rattle.stm_model.specs.Attempt.{Attempt, Close, Due, ReleaseLevel, Mark, RollBack, CommitClock, Write, held_at, has_prepared, unmarked_at, unstored_at, flies_at, holds, marks, stamp_of}
 use Rattle.stm_model.specs.Heap.{writes_to}
 use Rattle.stm_model.specs.Safe.{IsKept, EndingAt, EndsSo, EndsWith, GivesBack, HasBegun, HoldsNewest, PhaseAt, Safe, SafeAttempt, SafeStage, stamp_on}
 use Rattle.stm_model.specs.World.{IsCaller, Terms, World, attempt_of, cells_in, words_after, clock_after, found, seen_after, since_at}
@@ -103,10 +103,10 @@ gives_more t due kept write behind gives = record {
     regroup front middle cell behind = simp append_assoc
 
 given_alike : (t : Attempt) (due : List Due) (kept : List Write) (write : Write) (behind : List Write) → GivesBack (record t { due = due }) kept behind → t.ending ≡ None → (cell : ℕ) → cell ≢ write.0
-    → AlikeAt cell (give_back_on (record t { due = due }) kept behind) (at t (GiveBack kept write behind))
+    → AlikeAt cell (release_level_on (record t { due = due }) kept behind) (at t (ReleaseLevel kept write behind))
 unfolding held_at unmarked_at unstored_at
 given_alike t due kept write behind gives undecided cell other =
-    let these : HoldsThese (give_back_on (record t { due = due }) kept behind) kept behind cell = given_holds (record t { due = due }) kept behind cell gives undecided in
+    let these : HoldsThese (release_level_on (record t { due = due }) kept behind) kept behind cell = given_holds (record t { due = due }) kept behind cell gives undecided in
     record {
       held = these.held ∙ sym (out_else kept behind write cell other);
       marked = λ held. these.unmarked ∙ sym (and_not (writes_to (kept ++ write ∷ behind) cell));
@@ -128,7 +128,7 @@ mark_follows t write (next ∷ behind) = record { serial = refl; phase = refl; p
 
 pub mark_safe : (terms : Terms) (w : World) (p : ℕ) (t : Attempt) (behind : List Write) → Sound terms w p t → t.phase ≡ Preparing → t.ending ≡ None → 0 < length t.now.writes → EndsWith t.now.writes behind → SafeAttempt terms w p (mark_on t behind)
 unfolding SafeStage PhaseAt HasBegun EndingAt EndsSo
-mark_safe terms w p t [] sound phase ending some ends = placed terms w p t sound (rw ending tt) (Sample 0) tt phase ending some
+mark_safe terms w p t [] sound phase ending some ends = placed terms w p t sound (rw ending tt) (CommitClock 0) tt phase ending some
 mark_safe terms w p t (next ∷ behind) sound phase ending some ends = placed terms w p t sound (rw ending tt) (Mark next behind) tt phase ending ends
 
 mark_holds : (t : Attempt) (cell : ℕ) (behind : List Write) → writes_to t.now.writes cell ≡ true → holds (mark_on t behind) cell ≡ true
@@ -170,12 +170,12 @@ module _ (lawful : List ℕ → Type 0) (may : List ℕ → List ℕ → Type 0)
       (omega arith) (λ same set. set) (inl stamp)
       (freed lawful may terms w p safe caller cell within meta u refl refl (back_free (record t { due = due }) cell behind next.done) mine settled.version settled.value)
 
-  pub keeps_give_back : (kept : List Write) (write : Write) (behind : List Write) → (attempt_of w p).stage ≡ GiveBack kept write behind → Safe lawful may terms (stepped w p (GiveBack kept write behind))
+  pub keeps_give_back : (kept : List Write) (write : Write) (behind : List Write) → (attempt_of w p).stage ≡ ReleaseLevel kept write behind → Safe lawful may terms (stepped w p (ReleaseLevel kept write behind))
   unfolding next_at after_at words_after found seen_after since_at clock_after held_at flies_at HasBegun EndingAt PhaseAt SafeStage
   keeps_give_back kept write behind is =
       let t = attempt_of w p in
       let own = safe.attempts p caller in
-      let stage = GiveBack kept write behind in
+      let stage = ReleaseLevel kept write behind in
       let cell = write.0 in
       let gives : GivesBack t kept (write ∷ behind) = stage_is terms w p stage own is in
       let undecided : t.ending ≡ None = ending_is terms w p stage own is in
@@ -187,7 +187,7 @@ module _ (lawful : List ℕ → Type 0) (may : List ℕ → List ℕ → Type 0)
       let due = ring_if (w.meta cell).pending cell in
       let more : GivesBack (record t { due = due }) kept behind = gives_more t due kept write behind gives in
       let meta : Meta = record (w.meta cell) { changing = false; owner = 0 } in
-      let u = give_back_on (record t { due = due }) kept behind in
+      let u = release_level_on (record t { due = due }) kept behind in
       let these : HoldsThese u kept behind cell = given_holds (record t { due = due }) kept behind cell more undecided in
       safe_touched lawful may terms w p safe caller cell within meta u stage is
       (λ other apart. given_alike t due kept write behind more undecided other apart)

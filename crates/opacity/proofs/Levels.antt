@@ -5,8 +5,8 @@ use Rattle.std.specs.Map.{keys_of}
 use Rattle.std.proofs.lemmas.List.{append-nil, drop-map, drop_at, get_or_append_left, length-map}
 use Rattle.std.proofs.lemmas.List.Elements.{All-push}
 use Rattle.meta_word.specs.declared.status.Phase.TheVariants.{Active}
-use Rattle.stm_model.specs.After.{give_back_on, run_all}
-use Rattle.stm_model.specs.Attempt.{Attempt, Due, Write, GiveBack, Ready, held_at, unmarked_at, unstored_at, holds, marks, stamp_of}
+use Rattle.stm_model.specs.After.{release_level_on, run_all}
+use Rattle.stm_model.specs.Attempt.{Attempt, Due, Write, ReleaseLevel, Ready, held_at, unmarked_at, unstored_at, holds, marks, stamp_of}
 use Rattle.stm_model.specs.CellsState.{Book, level_runs, outer, returned}
 use Rattle.stm_model.specs.Heap.{put, writes_to}
 use Rattle.stm_model.specs.Safe.{EndingAt, GivesBack, HasBegun, LevelsNest, PhaseAt, SafeAttempt, SafeStage, EndsSo}
@@ -119,13 +119,13 @@ module _ (terms : Terms) (w : World) (p : ℕ) where
     levels = nest.2;
   }
 
-  pub given_safe : (t : Attempt) (kept behind : List Write) → Sound terms w p t → GivesBack t kept behind → t.phase ≡ Active → t.ending ≡ None → SafeAttempt terms w p (give_back_on t kept behind)
+  pub given_safe : (t : Attempt) (kept behind : List Write) → Sound terms w p t → GivesBack t kept behind → t.phase ≡ Active → t.ending ≡ None → SafeAttempt terms w p (release_level_on t kept behind)
   unfolding SafeStage PhaseAt EndingAt HasBegun EndsSo
   given_safe t kept [] sound gives active none =
       let u = record t { now = returned t.saved t.now; saved = outer t.saved; due = t.due ++ run_all (level_runs t.saved t.now) } in
       placed terms w p u (returned_sound t t.saved u.due sound sound.levels) (rw none tt) (Ready None) tt active none tt
   given_safe t kept (write ∷ behind) sound gives active none =
-      placed terms w p t sound (rw none tt) (GiveBack kept write behind) tt active none gives
+      placed terms w p t sound (rw none tt) (ReleaseLevel kept write behind) tt active none gives
 
 -- An attempt holds these cells, unmarked, and is undecided.
 pub record HoldsThese (u : Attempt) (kept behind : List Write) (cell : ℕ) : Type 0 where
@@ -141,7 +141,7 @@ and_not false = refl
 returned_writes : (saved : List Book) (now former : Book) (others : List Book) → saved ≡ former ∷ others → (returned saved now).writes ≡ former.writes
 returned_writes saved now former others is = rw is refl
 
-pub given_holds : (t : Attempt) (kept behind : List Write) (cell : ℕ) → GivesBack t kept behind → t.ending ≡ None → HoldsThese (give_back_on t kept behind) kept behind cell
+pub given_holds : (t : Attempt) (kept behind : List Write) (cell : ℕ) → GivesBack t kept behind → t.ending ≡ None → HoldsThese (release_level_on t kept behind) kept behind cell
 unfolding held_at unmarked_at unstored_at
 given_holds t kept [] cell gives none =
     let back : (returned t.saved t.now).writes ≡ kept = returned_writes t.saved t.now gives.former gives.others gives.level ∙ sym gives.kept_writes in

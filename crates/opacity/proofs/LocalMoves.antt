@@ -12,7 +12,7 @@ use Rattle.stm_model.specs.After.{at}
 use Rattle.stm_model.specs.Attempt.{cause_at, no_attempt, Attempt, Announce, Begin, Due, Ended, Late, Ready, Ring, Run, Stage, Stopped, held_at}
 use Rattle.stm_model.specs.Evidence.{Evidence}
 use Rattle.stm_model.specs.History.{IsCurrent}
-use Rattle.stm_model.specs.Moves.{Forgets, Begins, Does, Lacks, May, Move, EndsLate, Takes, AwaitsAskAt, begun, did_first, moved, late_over_at}
+use Rattle.stm_model.specs.Moves.{Forgets, Begins, Does, OutOfMemory, May, Move, EndsLate, Takes, AwaitsAskAt, begun, did_first, moved, late_over_at}
 use Rattle.stm_model.specs.Safe.{NamesNote, IsKept, EndingAt, HasBegun, PhaseAt, Safe, SafeAttempt, SafeStage, SerialAt, EndsSo, caller_at, serial_at}
 use Rattle.stm_model.specs.World.{IsCaller, Terms, World, attempt_of, cells_in, move, with_view}
 use Rattle.opacity.proofs.Shown.{Shows, if_shown, if_shows}
@@ -218,7 +218,7 @@ module _ (lawful : List ℕ → Type 0) (may : List ℕ → List ℕ → Type 0)
       let t = attempt_of w p in
       let own = safe.attempts p caller in
       safe_local lawful may terms w p safe caller t.stage refl _ (asked_fits terms w p t t.stage refl able.0.stands own.phase own.ending (sound_of terms w p t own) (if_shows t (cause_at t.stage) own.refused) ask able.1)
-  move_safe (Lacks ask) able =
+  move_safe (OutOfMemory ask) able =
       let t = attempt_of w p in
       let own = safe.attempts p caller in
       safe_local lawful may terms w p safe caller t.stage refl _ (stopped_open terms w p t t.stage (waits_open t.stage able.0.stands) own.phase own.ending (sound_of terms w p t own) Memory (tt, tt))

@@ -7,8 +7,8 @@ use Rattle.stm_model.specs.declared.cause.Cause.TheVariants.{ClockMoved, Doomed}
 use Rattle.stm_model.specs.declared.ending.Ending.TheVariants.{Committed}
 use Rattle.stm_model.specs.declared.note.Note.{Note}
 use Rattle.stm_model.specs.Accesses.{Act, active, next_at, owned}
-use Rattle.stm_model.specs.After.{acquired, acquiring, after_at, at, checked, decided, done, looked, looked_twice, mark_on, note_of, owning, prepared, ring_if, rolled, run_all, same_but_pending, same_meta, same_status, store_on, take_again}
-use Rattle.stm_model.specs.Attempt.{Announce, Begin, FirstLook, Renew, Extend, Fetch, SecondLook, Acquire, Own, SeeOwner, SeeAgain, DoomOwner, GiveBack, Prepare, Mark, Sample, Check, Decide, StoreValues, Release, RollBack, Close, Attempt, Stage, cause_at}
+use Rattle.stm_model.specs.After.{meta_acquired, acquiring, after_at, at, note_validated, decided, done, meta_read, validated, mark_on, note_of, exchanged, prepared, ring_if, rolled, run_all, same_but_pending, same_meta, same_status, store_on, acquire_again}
+use Rattle.stm_model.specs.Attempt.{Announce, Begin, ReadMeta, ExtendClock, ExtendNote, ReadValue, Validate, AcquireMeta, Acquire, OwnerStatus, OwnerMeta, DoomOwner, ReleaseLevel, Prepare, Mark, CommitClock, CommitNote, Decide, StoreValues, Release, RollBack, Close, Attempt, Stage, cause_at}
 use Rattle.stm_model.specs.Handlers.{committing, preparing}
 use Rattle.stm_model.specs.Heap.{put}
 use Rattle.stm_model.specs.History.{IsCurrent}
@@ -48,51 +48,51 @@ module _ (lawful : List ℕ → Type 0) (may : List ℕ → List ℕ → Type 0)
   abbrev Here : Attempt → Type 0
   Here u = GoesAlone n w.meta u
 
-  first_look : (cell left : ℕ) → t.stage ≡ FirstLook cell left → Here (looked t cell left (w.meta cell))
-  unfolding looked SafeStage cause_at
+  first_look : (cell left : ℕ) → t.stage ≡ ReadMeta cell left → Here (meta_read t cell left (w.meta cell))
+  unfolding meta_read SafeStage cause_at
   first_look cell left is =
-      let read : IsToRead terms t cell = stage_is terms w p (FirstLook cell left) own is in
-      let here : t.prefix ≡ n = solo_is (FirstLook cell left) is in
+      let read : IsToRead terms t cell = stage_is terms w p (ReadMeta cell left) own is in
+      let here : t.prefix ≡ n = solo_is (ReadMeta cell left) is in
       let low : (w.meta cell).version ≤ t.prefix = omega (arith, here, version_length terms w cell (safe.cells cell read.in_range)) in
       passed Here (changing_by_another t.own (w.meta cell)) _ _ (not_changing lawful may terms w p safe caller lone cell read.in_range)
       (passed Here (nat_lt t.prefix (w.meta cell).version) _ _ (not_less t.prefix (w.meta cell).version low)
-      (goes_plain n w.meta t calm (Fetch cell left (w.meta cell)) tt (here, refl)))
+      (goes_plain n w.meta t calm (ReadValue cell left (w.meta cell)) tt (here, refl)))
 
-  second_look : (cell left : ℕ) (first : Meta) (value : ℕ) → t.stage ≡ SecondLook cell left first value → Here (looked_twice t cell left first value (w.meta cell))
-  unfolding looked_twice SafeStage cause_at
+  second_look : (cell left : ℕ) (first : Meta) (value : ℕ) → t.stage ≡ Validate cell left first value → Here (validated t cell left first value (w.meta cell))
+  unfolding validated SafeStage cause_at
   second_look cell left first value is =
-      let at_stage = stage_is terms w p (SecondLook cell left first value) own is in
-      let solo : (t.prefix ≡ n) × (first.version ≡ (w.meta cell).version) = solo_is (SecondLook cell left first value) is in
+      let at_stage = stage_is terms w p (Validate cell left first value) own is in
+      let solo : (t.prefix ≡ n) × (first.version ≡ (w.meta cell).version) = solo_is (Validate cell left first value) is in
       chosen Here (still_has t.own first.version (w.meta cell)) _ _ (still lawful may terms w p safe caller lone cell first.version at_stage.0.in_range (sym solo.1))
       (record { stage = solo.0; undisturbed = record { refused = tt; ending = calm } })
 
-  acquires : (cell value left : ℕ) (tried : Bool) → t.stage ≡ Acquire cell value left tried → Here (acquiring t cell value left tried (w.meta cell))
+  acquires : (cell value left : ℕ) (tried : Bool) → t.stage ≡ AcquireMeta cell value left tried → Here (acquiring t cell value left tried (w.meta cell))
   unfolding acquiring SafeStage cause_at
   acquires cell value left tried is =
-      let write : IsToWrite terms t cell value = stage_is terms w p (Acquire cell value left tried) own is in
-      let here : t.prefix ≡ n = solo_is (Acquire cell value left tried) is in
+      let write : IsToWrite terms t cell value = stage_is terms w p (AcquireMeta cell value left tried) own is in
+      let here : t.prefix ≡ n = solo_is (AcquireMeta cell value left tried) is in
       let none : owned_by_another t.own (w.meta cell) ≡ false = not_another lawful may terms w p safe caller lone cell write.in_range in
-      let nobody : (w.meta cell).owner ≡ 0 = nobodys lawful may terms w p safe caller (Acquire cell value left tried) tt is cell value write none in
+      let nobody : (w.meta cell).owner ≡ 0 = nobodys lawful may terms w p safe caller (AcquireMeta cell value left tried) tt is cell value write none in
       passed Here (owned_by_another t.own (w.meta cell)) _ _ none
-      (chosen Here (nat_eq (w.meta cell).owner 0) _ _ (same_test (w.meta cell).owner 0 nobody) (goes_plain n w.meta t calm (Own cell value left tried (w.meta cell) (w.meta cell) false) tt (here, refl)))
+      (chosen Here (nat_eq (w.meta cell).owner 0) _ _ (same_test (w.meta cell).owner 0 nobody) (goes_plain n w.meta t calm (Acquire cell value left tried (w.meta cell) (w.meta cell) false) tt (here, refl)))
 
-  by_note : (cell value left : ℕ) (tried : Bool) → t.stage ≡ Acquire cell value left tried → (found : Option Note) → note_of t.notes cell ≡ found → Here (acquired t cell value left tried found (w.meta cell))
+  by_note : (cell value left : ℕ) (tried : Bool) → t.stage ≡ AcquireMeta cell value left tried → (found : Option Note) → note_of t.notes cell ≡ found → Here (meta_acquired t cell value left tried found (w.meta cell))
   by_note cell value left tried is None noted = acquires cell value left tried is
   by_note cell value left tried is (Some note) noted =
-      let here : t.prefix ≡ n = solo_is (Acquire cell value left tried) is in
+      let here : t.prefix ≡ n = solo_is (AcquireMeta cell value left tried) is in
       let current = found_note (IsCurrent terms.opening w.history t.prefix) t.notes cell note own.notes noted in
       let within = found_note (λ each. each.addr.0 < cells_in terms) t.notes cell note own.noted_cells noted in
-      let version = note_now lawful may terms w p safe caller lone note within.0 (no_stamp lawful may terms w p safe caller (Acquire cell value left tried) tt is) here current.0 in
+      let version = note_now lawful may terms w p safe caller lone note within.0 (no_stamp lawful may terms w p safe caller (AcquireMeta cell value left tried) tt is) here current.0 in
       let same : note.version ≡ (w.meta cell).version = sym version ∙ ap (λ (c : ℕ). (w.meta c).version) current.1 in
       chosen Here (nat_eq note.version (w.meta cell).version) _ _ (same_test note.version (w.meta cell).version same) (acquires cell value left tried is)
 
-  checks : (lost clock : ℕ) (note : Note) (behind : List Note) → t.stage ≡ Check lost clock note behind → Here (checked t lost clock note behind (w.meta note.addr.0))
-  unfolding checked SafeStage EndingAt
+  checks : (lost clock : ℕ) (note : Note) (behind : List Note) → t.stage ≡ CommitNote lost clock note behind → Here (note_validated t lost clock note behind (w.meta note.addr.0))
+  unfolding note_validated SafeStage EndingAt
   checks lost clock note behind is =
-      let at_stage = stage_is terms w p (Check lost clock note behind) own is in
+      let at_stage = stage_is terms w p (CommitNote lost clock note behind) own is in
       let sampled : WasSampled w t clock (note ∷ behind) = at_stage.1 in
-      let solo : (t.prefix ≡ n) × (clock ≡ n) = solo_is (Check lost clock note behind) is in
-      let none = ending_is terms w p (Check lost clock note behind) own is in
+      let solo : (t.prefix ≡ n) × (clock ≡ n) = solo_is (CommitNote lost clock note behind) is in
+      let none = ending_is terms w p (CommitNote lost clock note behind) own is in
       let within : note.addr.0 < cells_in terms = all_at (λ each. each.addr.0 < cells_in terms) sampled.checked behind t.notes note sampled.notes own.noted_cells in
       let current : IsCurrent terms.opening w.history t.prefix note = all_at (IsCurrent terms.opening w.history t.prefix) sampled.checked behind t.notes note sampled.notes own.notes in
       let version = note_now lawful may terms w p safe caller lone note within (rw none refl) solo.0 current in
@@ -116,21 +116,21 @@ module _ (lawful : List ℕ → Type 0) (may : List ℕ → List ℕ → Type 0)
     where
       go : (b : Bool) → b ≡ true
           → GoesAlone (length (if b then record w { clock = suc clock; history = w.history ++ entry_of t ∷ [] } else w).history) (if b then record w { clock = suc clock; history = w.history ++ entry_of t ∷ [] } else w).meta
-          (if b then store_on (record t { ending = Some (Committed (suc clock)); due = run_all (committing t.now.hooks) }) t.now.writes else if nat_lt lost t.settings.tries then at t (Sample (suc lost)) else rolled t (ClockMoved clock w.clock))
+          (if b then store_on (record t { ending = Some (Committed (suc clock)); due = run_all (committing t.now.hooks) }) t.now.writes else if nat_lt lost t.settings.tries then at t (CommitClock (suc lost)) else rolled t (ClockMoved clock w.clock))
       go true won = goes_store (length (w.history ++ entry_of t ∷ [])) w.meta (record t { ending = Some (Committed (suc clock)); due = run_all (committing t.now.hooks) }) tt t.now.writes
       go false lost = cc
 
-  takes : (cell value left : ℕ) (tried : Bool) (first expected : Meta) (again : Bool) → t.stage ≡ Own cell value left tried first expected again
-      → Then (Own cell value left tried first expected again) (next_at t (Own cell value left tried first expected again))
-  unfolding next_at words_after found after_at owning cause_at
+  takes : (cell value left : ℕ) (tried : Bool) (first expected : Meta) (again : Bool) → t.stage ≡ Acquire cell value left tried first expected again
+      → Then (Acquire cell value left tried first expected again) (next_at t (Acquire cell value left tried first expected again))
+  unfolding next_at words_after found after_at exchanged cause_at
   takes cell value left tried first expected again is =
-      let solo : (t.prefix ≡ n) × (expected ≡ w.meta cell) = solo_is (Own cell value left tried first expected again) is in
+      let solo : (t.prefix ≡ n) × (expected ≡ w.meta cell) = solo_is (Acquire cell value left tried first expected again) is in
       go (same_meta (w.meta cell) expected) (rw solo.1 (same_whole (w.meta cell))) solo.0
     where
       go : (b : Bool) → b ≡ true → t.prefix ≡ n
           → GoesAlone (length (if b then with_meta w cell (owned t.own expected) else w).history) (if b then with_meta w cell (owned t.own expected) else w).meta
           (if b then done (record t { now = record t.now { writes = put t.now.writes cell value } })
-          else if not again && same_but_pending (w.meta cell) expected then at t (Own cell value left tried first (w.meta cell) true) else take_again t cell value left tried first (w.meta cell))
+          else if not again && same_but_pending (w.meta cell) expected then at t (Acquire cell value left tried first (w.meta cell) true) else acquire_again t cell value left tried first (w.meta cell))
       go true won here = record { stage = here; undisturbed = record { refused = tt; ending = calm } }
       go false lost here = cc
 
@@ -138,21 +138,21 @@ module _ (lawful : List ℕ → Type 0) (may : List ℕ → List ℕ → Type 0)
   unfolding next_at words_after found after_at cause_at SafeStage
   alone_step Announce is = record { stage = tt; undisturbed = record { refused = tt; ending = calm } }
   alone_step Begin is = record { stage = safe.clock; undisturbed = record { refused = tt; ending = calm } }
-  alone_step (FirstLook cell left) is = first_look cell left is
-  alone_step (Renew cell left first) is = absurd (solo_is (Renew cell left first) is)
-  alone_step (Extend cell left first clock note behind) is = absurd (solo_is (Extend cell left first clock note behind) is)
-  alone_step (Fetch cell left first) is = goes_plain n w.meta t calm (SecondLook cell left first (w.value cell)) tt (solo_is (Fetch cell left first) is)
-  alone_step (SecondLook cell left first value) is = second_look cell left first value is
-  alone_step (Acquire cell value left tried) is = by_note cell value left tried is (note_of t.notes cell) refl
-  alone_step (Own cell value left tried first expected again) is = takes cell value left tried first expected again is
-  alone_step (SeeOwner cell value left first) is = absurd (solo_is (SeeOwner cell value left first) is)
-  alone_step (SeeAgain cell value left first status) is = absurd (solo_is (SeeAgain cell value left first status) is)
+  alone_step (ReadMeta cell left) is = first_look cell left is
+  alone_step (ExtendClock cell left first) is = absurd (solo_is (ExtendClock cell left first) is)
+  alone_step (ExtendNote cell left first clock note behind) is = absurd (solo_is (ExtendNote cell left first clock note behind) is)
+  alone_step (ReadValue cell left first) is = goes_plain n w.meta t calm (Validate cell left first (w.value cell)) tt (solo_is (ReadValue cell left first) is)
+  alone_step (Validate cell left first value) is = second_look cell left first value is
+  alone_step (AcquireMeta cell value left tried) is = by_note cell value left tried is (note_of t.notes cell) refl
+  alone_step (Acquire cell value left tried first expected again) is = takes cell value left tried first expected again is
+  alone_step (OwnerStatus cell value left first) is = absurd (solo_is (OwnerStatus cell value left first) is)
+  alone_step (OwnerMeta cell value left first status) is = absurd (solo_is (OwnerMeta cell value left first status) is)
   alone_step (DoomOwner cell value left first second status) is = absurd (solo_is (DoomOwner cell value left first second status) is)
-  alone_step (GiveBack kept write behind) is = goes_give_back n _ (record t { due = ring_if (w.meta write.0).pending write.0 }) calm (solo_is (GiveBack kept write behind) is) kept behind
+  alone_step (ReleaseLevel kept write behind) is = goes_give_back n _ (record t { due = ring_if (w.meta write.0).pending write.0 }) calm (solo_is (ReleaseLevel kept write behind) is) kept behind
   alone_step Prepare is = prepares is
   alone_step (Mark write behind) is = goes_mark n _ t calm (solo_is (Mark write behind) is) behind
-  alone_step (Sample lost) is = goes_check n w.meta t calm (solo_is (Sample lost) is) lost w.clock t.notes safe.clock
-  alone_step (Check lost clock note behind) is = checks lost clock note behind is
+  alone_step (CommitClock lost) is = goes_check n w.meta t calm (solo_is (CommitClock lost) is) lost w.clock t.notes safe.clock
+  alone_step (CommitNote lost clock note behind) is = checks lost clock note behind is
   alone_step (Decide lost clock) is = decides lost clock is
   alone_step (StoreValues write behind) is = goes_store n w.meta t calm behind
   alone_step (Release write behind) is = goes_release n _ (record t { due = ring_if (w.meta write.0).pending write.0 }) calm behind

@@ -9,7 +9,7 @@ use Rattle.meta_word.specs.declared.meta.TheConstants.{MAX_VERSION}
 use Rattle.meta_word.specs.declared.status.TxnStatus.{TxnStatus}
 use Rattle.stm_model.specs.declared.note.Note.{Note}
 use Rattle.stm_model.specs.Accesses.{Act, access_of, next, next_at, unless_due}
-use Rattle.stm_model.specs.Attempt.{Attempt, Due, Stage, Write, Acquire, Announce, Begin, Check, Close, Decide, DoomOwner, Extend, Fetch, FirstLook, GiveBack, Mark, Own, Prepare, Release, Renew, RollBack, Sample, SecondLook, SeeAgain, SeeOwner, StoreValues}
+use Rattle.stm_model.specs.Attempt.{Attempt, Due, Stage, Write, AcquireMeta, Announce, Begin, CommitNote, Close, Decide, DoomOwner, ExtendNote, ReadValue, ReadMeta, ReleaseLevel, Mark, Acquire, Prepare, Release, ExtendClock, RollBack, CommitClock, Validate, OwnerMeta, OwnerStatus, StoreValues}
 use Rattle.stm_model.specs.Safe.{EndingAt, EndsWith, GivesBack, Safe, SafeStage, WasTaken, stamp_on}
 use Rattle.stm_model.specs.World.{IsCaller, Terms, World, attempt_of, cells_in}
 use Rattle.stm_model.proofs.HistoryLemmas.{last_within}
@@ -68,31 +68,31 @@ module _ (lawful : List ℕ → Type 0) (may : List ℕ → List ℕ → Type 0)
   unfolding next_at SafeStage IsOfTable word_of access_of BringsWords FieldsFit
   good_at Announce is ending = record { word = own_caller; fields = λ brings. record { serial = (safe.attempts p caller).serial } }
   good_at Begin is ending = record { word = tt; fields = λ brings. tt }
-  good_at (FirstLook cell left) is ending = record { word = is.in_range; fields = λ brings. tt }
-  good_at (Renew cell left first) is ending = record { word = tt; fields = λ brings. tt }
-  good_at (Extend cell left first clock note behind) is ending = record { word = noted is.3.checked behind note is.3.notes; fields = λ brings. tt }
-  good_at (Fetch cell left first) is ending = record { word = is.0.in_range; fields = λ brings. tt }
-  good_at (SecondLook cell left first value) is ending = record { word = is.0.in_range; fields = λ brings. tt }
-  good_at (Acquire cell value left tried) is ending = record { word = is.in_range; fields = λ brings. tt }
-  good_at (Own cell value left tried first expected again) is ending =
+  good_at (ReadMeta cell left) is ending = record { word = is.in_range; fields = λ brings. tt }
+  good_at (ExtendClock cell left first) is ending = record { word = tt; fields = λ brings. tt }
+  good_at (ExtendNote cell left first clock note behind) is ending = record { word = noted is.3.checked behind note is.3.notes; fields = λ brings. tt }
+  good_at (ReadValue cell left first) is ending = record { word = is.0.in_range; fields = λ brings. tt }
+  good_at (Validate cell left first value) is ending = record { word = is.0.in_range; fields = λ brings. tt }
+  good_at (AcquireMeta cell value left tried) is ending = record { word = is.in_range; fields = λ brings. tt }
+  good_at (Acquire cell value left tried first expected again) is ending =
       let version : expected.version ≤ MAX_VERSION = omega (arith, is.1.behind, version_fits cell is.0.in_range) in
       record {
         word = is.0.in_range;
         fields = λ brings. (record { owner = omega (arith, is.1.owner, safe.fits.callers); version = version }, record { owner = omega (arith, own_caller.1, safe.fits.callers); version = version });
       }
-  good_at (SeeOwner cell value left first) is ending = record { word = taken cell first is.1; fields = λ brings. tt }
-  good_at (SeeAgain cell value left first status) is ending = record { word = is.0.in_range; fields = λ brings. tt }
+  good_at (OwnerStatus cell value left first) is ending = record { word = taken cell first is.1; fields = λ brings. tt }
+  good_at (OwnerMeta cell value left first status) is ending = record { word = is.0.in_range; fields = λ brings. tt }
   good_at (DoomOwner cell value left first second status) is ending = record {
     word = taken cell first is.1;
     fields = λ brings. let fits = status_fits status brings.0 in (fits, record { serial = fits.serial });
   }
-  good_at (GiveBack kept write behind) is ending = record { word = given kept write behind is; fields = λ brings. tt }
+  good_at (ReleaseLevel kept write behind) is ending = record { word = given kept write behind is; fields = λ brings. tt }
   good_at Prepare is ending =
       let serial = (safe.attempts p caller).serial in
       record { word = own_caller; fields = λ brings. (record { serial = serial }, record { serial = serial }) }
   good_at (Mark write behind) is ending = record { word = walked write behind is; fields = λ brings. tt }
-  good_at (Sample lost) is ending = record { word = tt; fields = λ brings. tt }
-  good_at (Check lost clock note behind) is ending = record { word = noted is.1.checked behind note is.1.notes; fields = λ brings. tt }
+  good_at (CommitClock lost) is ending = record { word = tt; fields = λ brings. tt }
+  good_at (CommitNote lost clock note behind) is ending = record { word = noted is.1.checked behind note is.1.notes; fields = λ brings. tt }
   good_at (Decide lost clock) is ending = record { word = tt; fields = λ brings. tt }
   good_at (StoreValues write behind) is ending = record { word = walked write behind is; fields = λ brings. tt }
   good_at (Release write behind) is ending =

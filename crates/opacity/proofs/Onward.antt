@@ -6,7 +6,7 @@ use Rattle.meta_word.specs.declared.meta.Meta.{Meta}
 use Rattle.stm_model.specs.declared.ending.Ending.{Ending}
 use Rattle.stm_model.specs.declared.ending.Ending.TheVariants.{Committed, Read, Rolled}
 use Rattle.stm_model.specs.declared.note.Note.{Note}
-use Rattle.stm_model.specs.Attempt.{Attempt, Stage, Announce, Begin, FirstLook, Renew, Extend, Fetch, SecondLook, Acquire, Own, SeeOwner, SeeAgain, DoomOwner, GiveBack, Prepare, Mark, Sample, Check, Decide, StoreValues, Release, RollBack}
+use Rattle.stm_model.specs.Attempt.{Attempt, Stage, Announce, Begin, ReadMeta, ExtendClock, ExtendNote, ReadValue, Validate, AcquireMeta, Acquire, OwnerStatus, OwnerMeta, DoomOwner, ReleaseLevel, Prepare, Mark, CommitClock, CommitNote, Decide, StoreValues, Release, RollBack}
 use Rattle.stm_model.specs.History.{IsCurrent, entry_after, last, state}
 use Rattle.stm_model.specs.Safe.{SafeAttempt, SafeStage, EndsSo, WasFetched, WasFound, WasTaken, WasSampled, WasSeen, stamp_on}
 use Rattle.stm_model.specs.World.{Terms, World, cells_in}
@@ -78,23 +78,23 @@ module _ (terms : Terms) (w v : World) (on : Onward terms w v) where
   unfolding SafeStage
   stage_onward t Announce low h = h
   stage_onward t Begin low h = h
-  stage_onward t (FirstLook cell left) low h = h
-  stage_onward t (Renew cell left first) low h = (h.0, seen_onward t cell first h.0.in_range h.1)
-  stage_onward t (Extend cell left first clock note behind) low h = (h.0, seen_onward t cell first h.0.in_range h.1, h.2, sampled_onward t clock (note ∷ behind) h.3)
-  stage_onward t (Fetch cell left first) low h = (h.0, seen_onward t cell first h.0.in_range h.1, h.2)
-  stage_onward t (SecondLook cell left first value) low h =
+  stage_onward t (ReadMeta cell left) low h = h
+  stage_onward t (ExtendClock cell left first) low h = (h.0, seen_onward t cell first h.0.in_range h.1)
+  stage_onward t (ExtendNote cell left first clock note behind) low h = (h.0, seen_onward t cell first h.0.in_range h.1, h.2, sampled_onward t clock (note ∷ behind) h.3)
+  stage_onward t (ReadValue cell left first) low h = (h.0, seen_onward t cell first h.0.in_range h.1, h.2)
+  stage_onward t (Validate cell left first value) low h =
       (h.0, seen_onward t cell first h.0.in_range h.1, h.2, fetched_onward cell first.version value h.0.in_range (omega (arith, h.2, low)) h.1.behind h.3)
-  stage_onward t (Acquire cell value left doomed) low h = h
-  stage_onward t (SeeOwner cell value left first) low h = (h.0, taken_onward t cell first h.0.in_range h.1)
-  stage_onward t (SeeAgain cell value left first status) low h = (h.0, taken_onward t cell first h.0.in_range h.1, h.2)
+  stage_onward t (AcquireMeta cell value left doomed) low h = h
+  stage_onward t (OwnerStatus cell value left first) low h = (h.0, taken_onward t cell first h.0.in_range h.1)
+  stage_onward t (OwnerMeta cell value left first status) low h = (h.0, taken_onward t cell first h.0.in_range h.1, h.2)
   stage_onward t (DoomOwner cell value left first second status) low h =
       (h.0, taken_onward t cell first h.0.in_range h.1, taken_onward t cell second h.0.in_range h.2, h.3, h.4)
-  stage_onward t (Own cell value left doomed first expected again) low h = (h.0, found_onward cell expected h.0.in_range h.1, h.2)
-  stage_onward t (GiveBack kept write behind) low h = h
+  stage_onward t (Acquire cell value left doomed first expected again) low h = (h.0, found_onward cell expected h.0.in_range h.1, h.2)
+  stage_onward t (ReleaseLevel kept write behind) low h = h
   stage_onward t (Mark write behind) low h = h
   stage_onward t Prepare low h = h
-  stage_onward t (Sample lost) low h = h
-  stage_onward t (Check lost clock note behind) low h = (h.0, sampled_onward t clock (note ∷ behind) h.1)
+  stage_onward t (CommitClock lost) low h = h
+  stage_onward t (CommitNote lost clock note behind) low h = (h.0, sampled_onward t clock (note ∷ behind) h.1)
   stage_onward t (Decide lost clock) low h = (h.0, sampled_onward t clock [] h.1, h.2)
   stage_onward t (StoreValues write behind) low h = h
   stage_onward t (Release write behind) low h = h

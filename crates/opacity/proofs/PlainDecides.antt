@@ -5,7 +5,7 @@ use Rattle.std.proofs.lemmas.Bool.Decides.{nat_tests}
 use Rattle.std.proofs.lemmas.List.{map-append, set-get_or}
 use Rattle.std.proofs.lemmas.Option.{get_or_from_slice_get}
 use Rattle.meta_word.specs.Status.{status_of}
-use Rattle.stm_model.specs.Accesses.{TakeClock, access_of, next, next_at, unless_due}
+use Rattle.stm_model.specs.Accesses.{ExchangeClock, access_of, next, next_at, unless_due}
 use Rattle.stm_model.specs.Attempt.{Attempt, Announce, Begin, Due, Stage, Write}
 use Rattle.stm_model.specs.History.{Entry}
 use Rattle.stm_model.specs.Safe.{HasBegun, Safe}
@@ -31,7 +31,7 @@ written_more notes i note within is =
     ap (λ (some : List Note). writes_in some) (taken_more notes i note within is) ∙ map-append (λ (each : Note). (each.addr.0, each.value)) (take i notes) (note ∷ [])
 
 -- Who makes the exchange has begun.
-begun : (t : Attempt) (old : ℕ) (due : List Due) (stage : Stage) → unless_due due (next_at t stage) ≡ Some (TakeClock old) → HasBegun stage
+begun : (t : Attempt) (old : ℕ) (due : List Due) (stage : Stage) → unless_due due (next_at t stage) ≡ Some (ExchangeClock old) → HasBegun stage
 unfolding next_at HasBegun
 begun t old (first ∷ due) stage is = cc
 begun t old [] Announce is = cc
@@ -39,7 +39,7 @@ begun t old [] Begin is = cc
 begun t old [] stage is = tt
 
 module _ (lawful : List ℕ → Type 0) (may : List ℕ → List ℕ → Type 0) (terms : Terms) (words : List ℕ) (history : List Entry) (view : ℕ → View) (p old : ℕ)
-    (safe : Safe lawful may terms (world_of terms words history view)) (caller : IsCaller terms p) (is : next (view p).attempt ≡ Some (TakeClock old)) where
+    (safe : Safe lawful may terms (world_of terms words history view)) (caller : IsCaller terms p) (is : next (view p).attempt ≡ Some (ExchangeClock old)) where
   abbrev w : World
   w = world_of terms words history view
 
@@ -70,11 +70,11 @@ module _ (lawful : List ℕ → Type 0) (may : List ℕ → List ℕ → Type 0)
     past true test = rw (is, test) refl
     past false test = rw (is, test) refl
 
-    brings : BringsWords (access_of (TakeClock old))
+    brings : BringsWords (access_of (ExchangeClock old))
     unfolding BringsWords access_of
     brings = (omega (arith, below), below)
 
-    then_table : (b : Bool) → nat_eq (get_or words 0 0) old ≡ b → table_after terms words (access_of (TakeClock old)) ≡ set words 0 (if b then suc old else get_or words 0 0)
+    then_table : (b : Bool) → nat_eq (get_or words 0 0) old ≡ b → table_after terms words (access_of (ExchangeClock old)) ≡ set words 0 (if b then suc old else get_or words 0 0)
     unfolding access_of word_of effect place_of
     then_table b test = rw test refl
 
@@ -82,8 +82,8 @@ module _ (lawful : List ℕ → Type 0) (may : List ℕ → List ℕ → Type 0)
         → ShowsSafe lawful may terms (set words 0 (if b then suc old else get_or words 0 0)) (if b then history ++ entry_of t ∷ [] else history) (step w p)
     unfolding MayHappen happened
     decides b test = record {
-      shows = step_shown lawful may terms words history view p (TakeClock old) safe table caller is brings
-          ∙ ap (λ (entries : List Entry). world_of terms (table_after terms words (access_of (TakeClock old))) entries (step w p).view) (past b test)
+      shows = step_shown lawful may terms words history view p (ExchangeClock old) safe table caller is brings
+          ∙ ap (λ (entries : List Entry). world_of terms (table_after terms words (access_of (ExchangeClock old))) entries (step w p).view) (past b test)
           ∙ ap (λ (ws : List ℕ). world_of terms ws (if b then history ++ entry_of t ∷ [] else history) (step w p).view) (then_table b test);
       safe = event_safe lawful may terms w (Steps p) caller owes safe;
     }

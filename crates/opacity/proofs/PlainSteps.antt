@@ -1,7 +1,7 @@
 -- A step that leaves the clock, in a world that a table shows.
 use Rattle.std.proofs.Common.{◌≡◌, ℕ, Bool, true, false, List, Option, Some, None, ap, sym, ◌∙◌, refl, subst, if◌then◌else◌, ◌<◌, ◌++◌, ◌∷◌, []}
 use Rattle.std.proofs.lemmas.List.{set-get_or}
-use Rattle.stm_model.specs.Accesses.{Act, LoadClock, SetPending, TakeClock, TakeMeta, TakeStatus, access_of, next, next_access, packed}
+use Rattle.stm_model.specs.Accesses.{Act, LoadClock, SetPending, ExchangeClock, ExchangeMeta, ExchangeStatus, access_of, next, next_access, packed}
 use Rattle.stm_model.specs.After.{same_meta, same_status}
 use Rattle.stm_model.specs.Attempt.{Attempt, Ended}
 use Rattle.stm_model.specs.History.{Entry}
@@ -20,9 +20,9 @@ if_history false v w same = refl
 
 words_history : (w : World) (t : Attempt) (act : Act) → IsUndecided (access_of act) → (words_after w t act).history ≡ w.history
 unfolding words_after IsUndecided access_of
-words_history w t (TakeClock old) undecided = absurd undecided
-words_history w t (TakeStatus p old new) undecided = if_history (same_status (w.status p) old) (with_status w p new) w refl
-words_history w t (TakeMeta cell old new) undecided = if_history (same_meta (w.meta cell) old) (with_meta w cell new) w refl
+words_history w t (ExchangeClock old) undecided = absurd undecided
+words_history w t (ExchangeStatus p old new) undecided = if_history (same_status (w.status p) old) (with_status w p new) w refl
+words_history w t (ExchangeMeta cell old new) undecided = if_history (same_meta (w.meta cell) old) (with_meta w cell new) w refl
 words_history w t act undecided = refl
 
 same_access : (act : Act) (access : Access) → packed (Some act) ≡ Some access → access_of act ≡ access
@@ -46,11 +46,11 @@ module _ (lawful : List ℕ → Type 0) (may : List ℕ → List ℕ → Type 0)
       ∙ ap (λ (each : Access). world_of terms (table_after terms words each) history (step w p).view) one
 
   -- The exchange of the clock is another access.
-  owes_nothing : next (view p).attempt ≡ Some (TakeClock w.clock) → ⊥
+  owes_nothing : next (view p).attempt ≡ Some (ExchangeClock w.clock) → ⊥
   unfolding IsUndecided access_of world_of
   owes_nothing takes =
-      let this : packed (Some (TakeClock w.clock)) ≡ Some access = ap packed (sym takes) ∙ is in
-      subst IsUndecided (sym (same_access (TakeClock w.clock) access this)) undecided
+      let this : packed (Some (ExchangeClock w.clock)) ≡ Some access = ap packed (sym takes) ∙ is in
+      subst IsUndecided (sym (same_access (ExchangeClock w.clock) access this)) undecided
 
   pub step_plain : ShowsSafe lawful may terms (table_after terms words access) history (step w p)
   unfolding MayHappen MeetsOwed happened world_of

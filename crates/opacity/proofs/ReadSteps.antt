@@ -10,8 +10,8 @@ use Rattle.stm_model.specs.declared.cause.Cause.{Cause}
 use Rattle.stm_model.specs.declared.cause.Cause.TheVariants.{Moved, ReadConflict, Stale}
 use Rattle.stm_model.specs.declared.note.Note.{Note}
 use Rattle.stm_model.specs.Accesses.{addr_of, next_at}
-use Rattle.stm_model.specs.After.{after_at, at, extend_on, extended, look_again, looked, looked_twice, note_of, stopped, answer_with}
-use Rattle.stm_model.specs.Attempt.{Attempt, Extend, Fetch, FirstLook, Ready, Renew, SecondLook, Stage, stamp_of}
+use Rattle.stm_model.specs.After.{after_at, at, extend_on, extended, read_again, meta_read, validated, note_of, stopped, answer_with}
+use Rattle.stm_model.specs.Attempt.{Attempt, ExtendNote, ReadValue, ReadMeta, Ready, ExtendClock, Validate, Stage, stamp_of}
 use Rattle.stm_model.specs.Evidence.{Evidence}
 use Rattle.stm_model.specs.History.{IsCurrent}
 use Rattle.stm_model.specs.Safe.{NamesNote, EndingAt, IsToRead, PhaseAt, Safe, SafeAttempt, SafeCell, SafeStage, WasFetched, WasSampled, WasSeen, stamp_on}
@@ -58,23 +58,23 @@ module _ (terms : Terms) (w : World) (p : ℕ) (t : Attempt) (here : Stage) (is_
   to : (there : Stage) → IsOpen there → IsPlain there → SafeStage terms w t there → Fits terms w p (at t here) (at t there)
   to there then_open plain stage = open_fits terms w p t t here there is_open then_open plain phase ending (goes_on_same terms w p t sound) stage
 
-  again : (cell left : ℕ) (cause : Cause) → Shows t cause → IsToRead terms t cell → Fits terms w p (at t here) (look_again t cell left cause)
+  again : (cell left : ℕ) (cause : Cause) → Shows t cause → IsToRead terms t cell → Fits terms w p (at t here) (read_again t cell left cause)
   unfolding SafeStage
   again cell zero cause shown read = stopped_open terms w p t here is_open phase ending sound cause shown
-  again cell (suc left) cause shown read = to (FirstLook cell left) tt tt read
+  again cell (suc left) cause shown read = to (ReadMeta cell left) tt tt read
 
-  first_look : (cell left : ℕ) → IsToRead terms t cell → Fits terms w p (at t here) (looked t cell left (w.meta cell))
-  unfolding looked SafeStage Evidence NamesNote
+  first_look : (cell left : ℕ) → IsToRead terms t cell → Fits terms w p (at t here) (meta_read t cell left (w.meta cell))
+  unfolding meta_read SafeStage Evidence NamesNote
   first_look cell left read = go (changing_by_another t.own (w.meta cell)) refl
     where
       next : (b : Bool) → nat_lt t.prefix (w.meta cell).version ≡ b → IsFalse (changing_by_another t.own (w.meta cell))
-          → Fits terms w p (at t here) (if b then at t (Renew cell left (w.meta cell)) else at t (Fetch cell left (w.meta cell)))
-      next true less quiet = to (Renew cell left (w.meta cell)) tt tt (read, record { quiet = quiet; behind = omega arith })
-      next false more quiet = to (Fetch cell left (w.meta cell)) tt tt (read, record { quiet = quiet; behind = omega arith }, not_less t.prefix (w.meta cell).version more)
+          → Fits terms w p (at t here) (if b then at t (ExtendClock cell left (w.meta cell)) else at t (ReadValue cell left (w.meta cell)))
+      next true less quiet = to (ExtendClock cell left (w.meta cell)) tt tt (read, record { quiet = quiet; behind = omega arith })
+      next false more quiet = to (ReadValue cell left (w.meta cell)) tt tt (read, record { quiet = quiet; behind = omega arith }, not_less t.prefix (w.meta cell).version more)
 
       go : (b : Bool) → changing_by_another t.own (w.meta cell) ≡ b
-          → Fits terms w p (at t here) (if b then look_again t cell left (ReadConflict (addr_of cell) (w.meta cell)) else
-          if nat_lt t.prefix (w.meta cell).version then at t (Renew cell left (w.meta cell)) else at t (Fetch cell left (w.meta cell)))
+          → Fits terms w p (at t here) (if b then read_again t cell left (ReadConflict (addr_of cell) (w.meta cell)) else
+          if nat_lt t.prefix (w.meta cell).version then at t (ExtendClock cell left (w.meta cell)) else at t (ReadValue cell left (w.meta cell)))
       go true loud = again cell left (ReadConflict (addr_of cell) (w.meta cell)) (loud, tt) read
       go false quiet = next (nat_lt t.prefix (w.meta cell).version) refl quiet
 
@@ -97,10 +97,10 @@ module _ (terms : Terms) (w : World) (p : ℕ) (t : Attempt) (here : Stage) (is_
       → Fits terms w p (at t here) (extend_on t cell left first clock behind)
   unfolding SafeStage
   extends cell left first clock [] read seen low sampled =
-      open_fits terms w p t (record t { prefix = clock }) here (Fetch cell left first) is_open tt tt phase ending
+      open_fits terms w p t (record t { prefix = clock }) here (ReadValue cell left first) is_open tt tt phase ending
       (record { serial = refl; phase = refl; ending = refl; prefix = sampled.low; writes = λ each. refl; sound = later_sound clock sampled })
       (record { in_range = read.in_range; unwritten = read.unwritten; unnoted = read.unnoted }, record { quiet = seen.quiet; behind = seen.behind }, low)
-  extends cell left first clock (note ∷ behind) read seen low sampled = to (Extend cell left first clock note behind) tt tt (read, seen, low, sampled)
+  extends cell left first clock (note ∷ behind) read seen low sampled = to (ExtendNote cell left first clock note behind) tt tt (read, seen, low, sampled)
 
   -- ---- a note more
 
@@ -143,18 +143,18 @@ module _ (lawful : List ℕ → Type 0) (may : List ℕ → List ℕ → Type 0)
   pub no_stamp : (stage : Stage) → IsOpen stage → t.stage ≡ stage → stamp_of t ≡ 0
   no_stamp stage is_open is = let none = (open_facts stage is_open).ending_from t.ending (ending_is terms w p stage own is) in rw none refl
 
-  pub keeps_first_look : (cell left : ℕ) → t.stage ≡ FirstLook cell left → Safe lawful may terms (stepped w p (FirstLook cell left))
+  pub keeps_first_look : (cell left : ℕ) → t.stage ≡ ReadMeta cell left → Safe lawful may terms (stepped w p (ReadMeta cell left))
   unfolding next_at after_at words_after found seen_after since_at clock_after SafeStage
   keeps_first_look cell left is =
-      let stage = FirstLook cell left in
+      let stage = ReadMeta cell left in
       safe_seen lawful may terms w p safe caller stage is _
       (first_look terms w p t stage tt (phase_is terms w p stage own is) (ending_is terms w p stage own is) sound cell left (stage_is terms w p stage own is))
       (knows_attempt _ refl refl refl)
 
-  pub keeps_renew : (cell left : ℕ) (first : Meta) → t.stage ≡ Renew cell left first → Safe lawful may terms (stepped w p (Renew cell left first))
+  pub keeps_renew : (cell left : ℕ) (first : Meta) → t.stage ≡ ExtendClock cell left first → Safe lawful may terms (stepped w p (ExtendClock cell left first))
   unfolding next_at after_at words_after found seen_after since_at clock_after SafeStage
   keeps_renew cell left first is =
-      let stage = Renew cell left first in
+      let stage = ExtendClock cell left first in
       let at_stage : IsToRead terms t cell × WasSeen w t cell first = stage_is terms w p stage own is in
       let low : first.version ≤ w.clock = omega (arith, at_stage.1.behind, version_length terms w cell (safe.cells cell at_stage.0.in_range), safe.clock) in
       safe_seen lawful may terms w p safe caller stage is _
@@ -162,13 +162,13 @@ module _ (lawful : List ℕ → Type 0) (may : List ℕ → List ℕ → Type 0)
       (sampled_start w t w.clock (omega (arith, own.prefix, safe.clock)) (omega (arith, safe.clock))))
       (knows_clock _ refl refl refl)
 
-  pub keeps_extend : (cell left : ℕ) (first : Meta) (clock : ℕ) (note : Note) (behind : List Note) → t.stage ≡ Extend cell left first clock note behind → Safe lawful may terms (stepped w p (Extend cell left first clock note behind))
+  pub keeps_extend : (cell left : ℕ) (first : Meta) (clock : ℕ) (note : Note) (behind : List Note) → t.stage ≡ ExtendNote cell left first clock note behind → Safe lawful may terms (stepped w p (ExtendNote cell left first clock note behind))
   unfolding next_at after_at words_after found seen_after since_at clock_after SafeStage extended Evidence NamesNote
   keeps_extend cell left first clock note behind is =
       safe_seen lawful may terms w p safe caller stage is _ (go (still_has t.own note.version (w.meta note.addr.0)) refl) (knows_attempt _ refl refl refl)
     where
       stage : Stage
-      stage = Extend cell left first clock note behind
+      stage = ExtendNote cell left first clock note behind
 
       at_stage : IsToRead terms t cell × WasSeen w t cell first × (first.version ≤ clock) × WasSampled w t clock (note ∷ behind)
       at_stage = stage_is terms w p stage own is
@@ -189,23 +189,23 @@ module _ (lawful : List ℕ → Type 0) (may : List ℕ → List ℕ → Type 0)
         names_checked at_stage.3.checked behind t.notes note (w.meta note.addr.0) at_stage.3.notes,
       )
 
-  pub keeps_fetch : (cell left : ℕ) (first : Meta) → t.stage ≡ Fetch cell left first → Safe lawful may terms (stepped w p (Fetch cell left first))
+  pub keeps_fetch : (cell left : ℕ) (first : Meta) → t.stage ≡ ReadValue cell left first → Safe lawful may terms (stepped w p (ReadValue cell left first))
   unfolding next_at after_at words_after found seen_after since_at clock_after SafeStage
   keeps_fetch cell left first is =
-      let stage = Fetch cell left first in
+      let stage = ReadValue cell left first in
       let at_stage : IsToRead terms t cell × WasSeen w t cell first × (first.version ≤ t.prefix) = stage_is terms w p stage own is in
       safe_seen lawful may terms w p safe caller stage is _
-      (to terms w p t stage tt (phase_is terms w p stage own is) (ending_is terms w p stage own is) sound (SecondLook cell left first (w.value cell)) tt tt
+      (to terms w p t stage tt (phase_is terms w p stage own is) (ending_is terms w p stage own is) sound (Validate cell left first (w.value cell)) tt tt
       (at_stage.0, at_stage.1, at_stage.2, fetched_now lawful may terms w safe cell first.version at_stage.0.in_range at_stage.1.behind))
       (knows_attempt _ refl refl refl)
 
-  pub keeps_second_look : (cell left : ℕ) (first : Meta) (value : ℕ) → t.stage ≡ SecondLook cell left first value → Safe lawful may terms (stepped w p (SecondLook cell left first value))
-  unfolding next_at after_at words_after found seen_after since_at clock_after SafeStage looked_twice Evidence NamesNote
+  pub keeps_second_look : (cell left : ℕ) (first : Meta) (value : ℕ) → t.stage ≡ Validate cell left first value → Safe lawful may terms (stepped w p (Validate cell left first value))
+  unfolding next_at after_at words_after found seen_after since_at clock_after SafeStage validated Evidence NamesNote
   keeps_second_look cell left first value is =
       safe_seen lawful may terms w p safe caller stage is _ (go (still_has t.own first.version (w.meta cell)) refl) (knows_attempt _ refl refl refl)
     where
       stage : Stage
-      stage = SecondLook cell left first value
+      stage = Validate cell left first value
 
       note : Note
       note = record { addr = addr_of cell; version = first.version; value = value }
@@ -214,7 +214,7 @@ module _ (lawful : List ℕ → Type 0) (may : List ℕ → List ℕ → Type 0)
       at_stage = stage_is terms w p stage own is
 
       go : (b : Bool) → still_has t.own first.version (w.meta cell) ≡ b
-          → Fits terms w p (at t stage) (if b then answer_with (record t { notes = t.notes ++ record { addr = addr_of cell; version = first.version; value = value } ∷ [] }) value else look_again t cell left (Moved (addr_of cell) first (w.meta cell)))
+          → Fits terms w p (at t stage) (if b then answer_with (record t { notes = t.notes ++ record { addr = addr_of cell; version = first.version; value = value } ∷ [] }) value else read_again t cell left (Moved (addr_of cell) first (w.meta cell)))
       go true same =
           let tests = and_parts (nat_eq (w.meta cell).version first.version) (not (changing_by_another t.own (w.meta cell))) same in
           let quiet : changing_by_another p (w.meta cell) ≡ false = rw own.own at (not-true (changing_by_another t.own (w.meta cell)) tests.1) in

@@ -9,11 +9,11 @@ use Rattle.stm_model.specs.declared.cause.Cause.{Cause}
 use Rattle.stm_model.specs.declared.cause.Cause.TheVariants.{ClockEnd, Full, Memory, Retry, TooDeep, User}
 use Rattle.stm_model.specs.declared.ending.Ending.TheVariants.{Rolled}
 use Rattle.stm_model.specs.declared.note.Note.{Note}
-use Rattle.stm_model.specs.After.{at, check_on, done, give_back_on, mark_on, note_of, release_on, roll_on, rolled, stopped, store_on}
-use Rattle.stm_model.specs.Attempt.{Announce, Begin, Ready, Late, Stopped, FirstLook, Renew, Extend, Fetch, SecondLook, Acquire, Own, SeeOwner, SeeAgain, DoomOwner, GiveBack, Prepare, Mark, Sample, Check, Decide, StoreValues, Release, RollBack, Close, Ended, Attempt, Due, Ring, Run, Stage, Write, cause_at}
+use Rattle.stm_model.specs.After.{at, validate_on, done, release_level_on, mark_on, note_of, release_on, roll_on, rolled, stopped, store_on}
+use Rattle.stm_model.specs.Attempt.{Announce, Begin, Ready, Late, Stopped, ReadMeta, ExtendClock, ExtendNote, ReadValue, Validate, AcquireMeta, Acquire, OwnerStatus, OwnerMeta, DoomOwner, ReleaseLevel, Prepare, Mark, CommitClock, CommitNote, Decide, StoreValues, Release, RollBack, Close, Ended, Attempt, Due, Ring, Run, Stage, Write, cause_at}
 use Rattle.stm_model.specs.CellsState.{Book, outer}
 use Rattle.stm_model.specs.Heap.{put, writes_to}
-use Rattle.stm_model.specs.Moves.{AwaitsAskAt, Begins, Does, EndsLate, Forgets, Lacks, May, MayAbandon, MayAsk, Move, Takes, asked_at, asked_going, asked_stopped, conclude, did_first, enter_level, go_on, late_over_at, moved, read_buffered, read_noted, turn_to, undo_level, write_cell}
+use Rattle.stm_model.specs.Moves.{AwaitsAskAt, Begins, Does, EndsLate, Forgets, OutOfMemory, May, MayAbandon, MayAsk, Move, Takes, asked_at, asked_going, asked_stopped, conclude, did_first, enter_level, go_on, late_over_at, moved, read_buffered, read_noted, turn_to, undo_level, write_cell}
 use Rattle.stm_model.specs.Refusing.{deepest}
 use Rattle.opacity.specs.Alone.{EndsByItself, IsOwn, IsUndisturbed}
 
@@ -21,15 +21,15 @@ use Rattle.opacity.specs.Alone.{EndsByItself, IsOwn, IsUndisturbed}
 abbrev pub Solo : ℕ → (ℕ → Meta) → ℕ → Stage → Type 0
 Solo n meta prefix Announce = Unit {0}
 Solo n meta prefix Begin = Unit {0}
-Solo n meta prefix (Renew cell left first) = ⊥
-Solo n meta prefix (Extend cell left first clock note behind) = ⊥
-Solo n meta prefix (SeeOwner cell value left first) = ⊥
-Solo n meta prefix (SeeAgain cell value left first status) = ⊥
+Solo n meta prefix (ExtendClock cell left first) = ⊥
+Solo n meta prefix (ExtendNote cell left first clock note behind) = ⊥
+Solo n meta prefix (OwnerStatus cell value left first) = ⊥
+Solo n meta prefix (OwnerMeta cell value left first status) = ⊥
 Solo n meta prefix (DoomOwner cell value left first second status) = ⊥
-Solo n meta prefix (Fetch cell left first) = (prefix ≡ n) × (first.version ≡ (meta cell).version)
-Solo n meta prefix (SecondLook cell left first value) = (prefix ≡ n) × (first.version ≡ (meta cell).version)
-Solo n meta prefix (Own cell value left tried first expected again) = (prefix ≡ n) × (expected ≡ meta cell)
-Solo n meta prefix (Check lost clock note behind) = (prefix ≡ n) × (clock ≡ n)
+Solo n meta prefix (ReadValue cell left first) = (prefix ≡ n) × (first.version ≡ (meta cell).version)
+Solo n meta prefix (Validate cell left first value) = (prefix ≡ n) × (first.version ≡ (meta cell).version)
+Solo n meta prefix (Acquire cell value left tried first expected again) = (prefix ≡ n) × (expected ≡ meta cell)
+Solo n meta prefix (CommitNote lost clock note behind) = (prefix ≡ n) × (clock ≡ n)
 Solo n meta prefix (Decide lost clock) = (prefix ≡ n) × (clock ≡ n)
 Solo n meta prefix (StoreValues write behind) = Unit {0}
 Solo n meta prefix (Release write behind) = Unit {0}
@@ -84,22 +84,22 @@ module _ (n : ℕ) (meta : ℕ → Meta) (t : Attempt) where
   module _ (calm : EndsByItself t.ending) (here : t.prefix ≡ n) where
     pub goes_mark : (behind : List Write) → GoesAlone n meta (mark_on t behind)
     unfolding cause_at
-    goes_mark [] = goes_plain n meta t calm (Sample 0) tt here
+    goes_mark [] = goes_plain n meta t calm (CommitClock 0) tt here
     goes_mark (write ∷ behind) = goes_plain n meta t calm (Mark write behind) tt here
 
-    pub goes_check : (lost clock : ℕ) (behind : List Note) → clock ≡ n → GoesAlone n meta (check_on t lost clock behind)
-    unfolding cause_at check_on IsOwn
+    pub goes_check : (lost clock : ℕ) (behind : List Note) → clock ≡ n → GoesAlone n meta (validate_on t lost clock behind)
+    unfolding cause_at validate_on IsOwn
     goes_check lost clock [] now = go (nat_eq clock t.settings.clock)
       where
         go : (b : Bool) → GoesAlone n meta (if b then rolled (record t { prefix = clock }) (ClockEnd clock) else at t (Decide lost clock))
         go true = goes_rolled n meta (record t { prefix = clock }) (ClockEnd clock) tt
         go false = goes_plain n meta t calm (Decide lost clock) tt (here, now)
-    goes_check lost clock (note ∷ behind) now = goes_plain n meta t calm (Check lost clock note behind) tt (here, now)
+    goes_check lost clock (note ∷ behind) now = goes_plain n meta t calm (CommitNote lost clock note behind) tt (here, now)
 
-    pub goes_give_back : (kept behind : List Write) → GoesAlone n meta (give_back_on t kept behind)
+    pub goes_give_back : (kept behind : List Write) → GoesAlone n meta (release_level_on t kept behind)
     unfolding cause_at
     goes_give_back kept [] = record { stage = here; undisturbed = record { refused = tt; ending = calm } }
-    goes_give_back kept (write ∷ behind) = goes_plain n meta t calm (GiveBack kept write behind) tt here
+    goes_give_back kept (write ∷ behind) = goes_plain n meta t calm (ReleaseLevel kept write behind) tt here
 
     -- ---- asks
 
@@ -119,7 +119,7 @@ module _ (n : ℕ) (meta : ℕ → Meta) (t : Attempt) where
     noted : (cell : ℕ) (found : Option Note) → GoesAlone n meta (read_noted t cell found)
     unfolding cause_at
     noted cell (Some note) = goes_plain n meta t calm (Ready (Some note.value)) tt here
-    noted cell None = goes_plain n meta t calm (FirstLook cell (looks t.settings.policy)) tt here
+    noted cell None = goes_plain n meta t calm (ReadMeta cell (looks t.settings.policy)) tt here
 
     buffered : (cell : ℕ) (found : Option ℕ) → GoesAlone n meta (read_buffered t cell found)
     unfolding cause_at
@@ -130,9 +130,9 @@ module _ (n : ℕ) (meta : ℕ → Meta) (t : Attempt) where
     unfolding cause_at
     writes cell value = go (writes_to t.now.writes cell)
       where
-        go : (b : Bool) → GoesAlone n meta (if b then done (record t { now = record t.now { writes = put t.now.writes cell value } }) else at t (Acquire cell value (looks t.settings.policy) false))
+        go : (b : Bool) → GoesAlone n meta (if b then done (record t { now = record t.now { writes = put t.now.writes cell value } }) else at t (AcquireMeta cell value (looks t.settings.policy) false))
         go true = record { stage = here; undisturbed = record { refused = tt; ending = calm } }
-        go false = goes_plain n meta t calm (Acquire cell value (looks t.settings.policy) false) tt here
+        go false = goes_plain n meta t calm (AcquireMeta cell value (looks t.settings.policy) false) tt here
 
     enters : GoesAlone n meta (enter_level t)
     unfolding cause_at IsOwn
@@ -205,7 +205,7 @@ module _ (n : ℕ) (meta : ℕ → Meta) (t : Attempt) (goes : GoesAlone n meta 
   pub move_alone : (size limit : ℕ) (this : Move) → May size limit t this → GoesAlone n meta (moved t this)
   unfolding May moved cause_at IsOwn EndsByItself
   move_alone size limit (Takes ask) able = asks t.stage able.0.stands (prefix_here t.stage refl able.0.stands goes.stage) goes.undisturbed.refused ask size able.1
-  move_alone size limit (Lacks ask) able = goes_plain n meta t goes.undisturbed.ending (Stopped Memory) tt (prefix_here t.stage refl able.0.stands goes.stage)
+  move_alone size limit (OutOfMemory ask) able = goes_plain n meta t goes.undisturbed.ending (Stopped Memory) tt (prefix_here t.stage refl able.0.stands goes.stage)
   move_alone size limit Does able = did t.due
   move_alone size limit EndsLate able = late t.stage able.0.stands (prefix_here t.stage refl able.0.stands goes.stage) goes.undisturbed.refused
   move_alone size limit Forgets able = record { stage = tt; undisturbed = record { refused = tt; ending = tt } }

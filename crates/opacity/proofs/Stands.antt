@@ -9,7 +9,7 @@ use Rattle.stm_model.specs.declared.ending.Ending.{Ending}
 use Rattle.stm_model.specs.declared.ending.Ending.TheVariants.{Committed, Read, Rolled}
 use Rattle.stm_model.specs.declared.note.Note.{Note}
 use Rattle.stm_model.specs.After.{at}
-use Rattle.stm_model.specs.Attempt.{Ended, Attempt, Stage, Announce, Begin, Stopped, FirstLook, Renew, Extend, Fetch, SecondLook, Acquire, Own, SeeOwner, SeeAgain, DoomOwner, GiveBack, Prepare, Mark, Sample, Check, Decide, StoreValues, Release, RollBack, cause_at, flies_at, stamp_of}
+use Rattle.stm_model.specs.Attempt.{Ended, Attempt, Stage, Announce, Begin, Stopped, ReadMeta, ExtendClock, ExtendNote, ReadValue, Validate, AcquireMeta, Acquire, OwnerStatus, OwnerMeta, DoomOwner, ReleaseLevel, Prepare, Mark, CommitClock, CommitNote, Decide, StoreValues, Release, RollBack, cause_at, flies_at, stamp_of}
 use Rattle.stm_model.specs.History.{IsCurrent, IsEntry}
 use Rattle.stm_model.specs.Safe.{EndingAt, HasBegun, IsKept, IsToRead, IsToWrite, LevelsNest, PhaseAt, SafeAttempt, SafeStage, SafeStatus, SafeView, SerialAt, EndsSo, WasTaken, WasSampled, WasSeen, caller_at, serial_at}
 use Rattle.stm_model.specs.World.{Terms, View, World, attempt_of, cells_in, entry_of}
@@ -72,18 +72,18 @@ module _ (terms : Terms) (w : World) (p : ℕ) where
     unfolding SafeStage HasBegun
     stage_same Announce begun h = absurd begun
     stage_same Begin begun h = absurd begun
-    stage_same (FirstLook cell left) begun h = to_read cell h
-    stage_same (Renew cell left first) begun h = (to_read cell h.0, was_seen cell first h.1)
-    stage_same (Extend cell left first clock note behind) begun h = (to_read cell h.0, was_seen cell first h.1, h.2, was_sampled clock (note ∷ behind) h.3)
-    stage_same (Fetch cell left first) begun h = (to_read cell h.0, was_seen cell first h.1, rw same.prefix h.2)
-    stage_same (SecondLook cell left first value) begun h = (to_read cell h.0, was_seen cell first h.1, rw same.prefix h.2, h.3)
-    stage_same (Acquire cell value left doomed) begun h = to_write cell value h
-    stage_same (SeeOwner cell value left first) begun h = (to_write cell value h.0, was_taken cell first h.1)
-    stage_same (SeeAgain cell value left first status) begun h = (to_write cell value h.0, was_taken cell first h.1, h.2)
+    stage_same (ReadMeta cell left) begun h = to_read cell h
+    stage_same (ExtendClock cell left first) begun h = (to_read cell h.0, was_seen cell first h.1)
+    stage_same (ExtendNote cell left first clock note behind) begun h = (to_read cell h.0, was_seen cell first h.1, h.2, was_sampled clock (note ∷ behind) h.3)
+    stage_same (ReadValue cell left first) begun h = (to_read cell h.0, was_seen cell first h.1, rw same.prefix h.2)
+    stage_same (Validate cell left first value) begun h = (to_read cell h.0, was_seen cell first h.1, rw same.prefix h.2, h.3)
+    stage_same (AcquireMeta cell value left doomed) begun h = to_write cell value h
+    stage_same (OwnerStatus cell value left first) begun h = (to_write cell value h.0, was_taken cell first h.1)
+    stage_same (OwnerMeta cell value left first status) begun h = (to_write cell value h.0, was_taken cell first h.1, h.2)
     stage_same (DoomOwner cell value left first second status) begun h =
         (to_write cell value h.0, was_taken cell first h.1, was_taken cell second h.2, h.3, h.4)
-    stage_same (Own cell value left doomed first expected again) begun h = (to_write cell value h.0, h.1, h.2)
-    stage_same (GiveBack kept write behind) begun h = record {
+    stage_same (Acquire cell value left doomed first expected again) begun h = (to_write cell value h.0, h.1, h.2)
+    stage_same (ReleaseLevel kept write behind) begun h = record {
       former = h.former;
       others = h.others;
       level = same.saved ∙ h.level;
@@ -93,8 +93,8 @@ module _ (terms : Terms) (w : World) (p : ℕ) where
     }
     stage_same (Mark write behind) begun h = rw same.writes h
     stage_same Prepare begun h = rw same.writes h
-    stage_same (Sample lost) begun h = rw same.writes h
-    stage_same (Check lost clock note behind) begun h = (rw same.writes h.0, was_sampled clock (note ∷ behind) h.1)
+    stage_same (CommitClock lost) begun h = rw same.writes h
+    stage_same (CommitNote lost clock note behind) begun h = (rw same.writes h.0, was_sampled clock (note ∷ behind) h.1)
     stage_same (Decide lost clock) begun h = (rw same.writes h.0, was_sampled clock [] h.1, h.2)
     stage_same (StoreValues write behind) begun h = rw same.writes h
     stage_same (Release write behind) begun h = rw same.writes h

@@ -1,7 +1,7 @@
 -- Every step, every local move and every look and wait keep the world safe, and so do whole runs.
 use Rattle.std.proofs.Common.{sym, Option, Some, ap, ◌≡◌, ℕ, List, [], ◌∷◌, refl}
-use Rattle.stm_model.specs.Accesses.{Act, TakeClock, next, next_at, unless_due}
-use Rattle.stm_model.specs.Attempt.{Attempt, Due, Stage, Announce, Begin, Ready, Late, Stopped, FirstLook, Renew, Extend, Fetch, SecondLook, Acquire, Own, SeeOwner, SeeAgain, DoomOwner, GiveBack, Prepare, Mark, Sample, Check, Decide, StoreValues, Release, RollBack, Close, Ended}
+use Rattle.stm_model.specs.Accesses.{Act, ExchangeClock, next, next_at, unless_due}
+use Rattle.stm_model.specs.Attempt.{Attempt, Due, Stage, Announce, Begin, Ready, Late, Stopped, ReadMeta, ExtendClock, ExtendNote, ReadValue, Validate, AcquireMeta, Acquire, OwnerStatus, OwnerMeta, DoomOwner, ReleaseLevel, Prepare, Mark, CommitClock, CommitNote, Decide, StoreValues, Release, RollBack, Close, Ended}
 use Rattle.stm_model.specs.Owes.{Owes}
 use Rattle.stm_model.specs.Safe.{Safe}
 use Rattle.stm_model.specs.World.{Event, Looks, MayHappen, MeetsOwed, Moves, Steps, Waits, happened, IsCaller, Terms, World, attempt_of, cells_in, step}
@@ -19,7 +19,7 @@ use Rattle.opacity.proofs.Stores.{keeps_store}
 
 -- Where an attempt makes this access and wins the exchange of the clock, its writes meet what is owed.
 abbrev pub Meets : (List ℕ → Type 0) → (List ℕ → List ℕ → Type 0) → Terms → World → Attempt → Option Act → Type 0
-Meets lawful may terms w t this = this ≡ Some (TakeClock w.clock) → Owes lawful may (cells_in terms) t.notes t.now.writes
+Meets lawful may terms w t this = this ≡ Some (ExchangeClock w.clock) → Owes lawful may (cells_in terms) t.notes t.now.writes
 
 module _ (lawful : List ℕ → Type 0) (may : List ℕ → List ℕ → Type 0) (terms : Terms) (w : World) (p : ℕ) (safe : Safe lawful may terms w) (caller : IsCaller terms p) where
   stands : (stage : Stage) → (attempt_of w p).stage ≡ stage → Meets lawful may terms w (attempt_of w p) (next_at (attempt_of w p) stage) → Safe lawful may terms (stepped w p stage)
@@ -29,22 +29,22 @@ module _ (lawful : List ℕ → Type 0) (may : List ℕ → List ℕ → Type 0)
   stands (Ready answer) is owes = safe
   stands (Late token) is owes = safe
   stands (Stopped cause) is owes = safe
-  stands (FirstLook cell left) is owes = keeps_first_look lawful may terms w p safe caller cell left is
-  stands (Renew cell left first) is owes = keeps_renew lawful may terms w p safe caller cell left first is
-  stands (Extend cell left first clock note behind) is owes = keeps_extend lawful may terms w p safe caller cell left first clock note behind is
-  stands (Fetch cell left first) is owes = keeps_fetch lawful may terms w p safe caller cell left first is
-  stands (SecondLook cell left first value) is owes = keeps_second_look lawful may terms w p safe caller cell left first value is
-  stands (Acquire cell value left doomed) is owes = keeps_acquire lawful may terms w p safe caller cell value left doomed is
-  stands (Own cell value left doomed first expected again) is owes = keeps_own lawful may terms w p safe caller cell value left doomed first expected again is
-  stands (SeeOwner cell value left first) is owes = keeps_see_owner lawful may terms w p safe caller cell value left first is
-  stands (SeeAgain cell value left first status) is owes = keeps_see_again lawful may terms w p safe caller cell value left first status is
+  stands (ReadMeta cell left) is owes = keeps_first_look lawful may terms w p safe caller cell left is
+  stands (ExtendClock cell left first) is owes = keeps_renew lawful may terms w p safe caller cell left first is
+  stands (ExtendNote cell left first clock note behind) is owes = keeps_extend lawful may terms w p safe caller cell left first clock note behind is
+  stands (ReadValue cell left first) is owes = keeps_fetch lawful may terms w p safe caller cell left first is
+  stands (Validate cell left first value) is owes = keeps_second_look lawful may terms w p safe caller cell left first value is
+  stands (AcquireMeta cell value left doomed) is owes = keeps_acquire lawful may terms w p safe caller cell value left doomed is
+  stands (Acquire cell value left doomed first expected again) is owes = keeps_own lawful may terms w p safe caller cell value left doomed first expected again is
+  stands (OwnerStatus cell value left first) is owes = keeps_see_owner lawful may terms w p safe caller cell value left first is
+  stands (OwnerMeta cell value left first status) is owes = keeps_see_again lawful may terms w p safe caller cell value left first status is
   stands (DoomOwner cell value left first second status) is owes = keeps_doom_owner lawful may terms w p safe caller cell value left first second status is
-  stands (GiveBack kept write behind) is owes = keeps_give_back lawful may terms w p safe caller kept write behind is
+  stands (ReleaseLevel kept write behind) is owes = keeps_give_back lawful may terms w p safe caller kept write behind is
   stands Prepare is owes = keeps_prepare lawful may terms w p safe caller is
   stands (Mark write behind) is owes = keeps_mark lawful may terms w p safe caller write behind is
-  stands (Sample lost) is owes = keeps_sample lawful may terms w p safe caller lost is
-  stands (Check lost clock note behind) is owes = keeps_check lawful may terms w p safe caller lost clock note behind is
-  stands (Decide lost clock) is owes = keeps_decide lawful may terms w p safe caller lost clock is (λ won. owes (ap (λ (n : ℕ). Some (TakeClock n)) (sym won)))
+  stands (CommitClock lost) is owes = keeps_sample lawful may terms w p safe caller lost is
+  stands (CommitNote lost clock note behind) is owes = keeps_check lawful may terms w p safe caller lost clock note behind is
+  stands (Decide lost clock) is owes = keeps_decide lawful may terms w p safe caller lost clock is (λ won. owes (ap (λ (n : ℕ). Some (ExchangeClock n)) (sym won)))
   stands (StoreValues write behind) is owes = keeps_store lawful may terms w p safe caller write behind is
   stands (Release write behind) is owes = keeps_release lawful may terms w p safe caller write behind is
   stands (RollBack write behind) is owes = keeps_back lawful may terms w p safe caller write behind is

@@ -1,6 +1,6 @@
 -- An access of an attempt as a step of a table, all at once.
 use Rattle.std.proofs.Common.{◌≡◌, ◌≢◌, ◌⊎◌, ℕ, suc, ◌≤◌, Bool, true, false, nat_eq, if◌then◌else◌, List, [], ◌∷◌, ◌++◌, length, get_or, Option, Some, refl, sym, ap, ◌∙◌, arith, inl, inr}
-use Rattle.stm_model.specs.Accesses.{Act, LoadClock, TakeClock, access_of, next}
+use Rattle.stm_model.specs.Accesses.{Act, LoadClock, ExchangeClock, access_of, next}
 use Rattle.stm_model.specs.After.{after, after_found, after_word}
 use Rattle.stm_model.specs.History.{Entry}
 use Rattle.stm_model.specs.Safe.{Safe}
@@ -24,7 +24,7 @@ own_view w p act is = rw is (replaced_here (words_after w (attempt_of w p) act).
 seen_more : (w : World) (view : View) (act : Act) → view.seen ≤ w.clock → view.seen ≤ seen_after w view act
 unfolding seen_after
 seen_more w view LoadClock low = low
-seen_more w view (TakeClock old) low = go (nat_eq w.clock old) refl
+seen_more w view (ExchangeClock old) low = go (nat_eq w.clock old) refl
   where
     go : (b : Bool) → nat_eq w.clock old ≡ b → view.seen ≤ (if b then suc old else view.seen)
     go true same = omega (arith, low, same_number w.clock old same)
@@ -53,7 +53,7 @@ module _ (lawful : List ℕ → Type 0) (may : List ℕ → List ℕ → Type 0)
       ap (λ (v : View). v.attempt) own ∙ ap (after (view p).attempt) (found_word terms words history view act good.word)
       ∙ sym (ap (λ o. after_found (view p).attempt o (word_found terms words (access_of act))) is)
 
-  keeps : ((step w p).history ≡ history) ⊎ ((act ≡ TakeClock (get_or words 0 0)) × ((step w p).history ≡ history ++ entry_of (view p).attempt ∷ []))
+  keeps : ((step w p).history ≡ history) ⊎ ((act ≡ ExchangeClock (get_or words 0 0)) × ((step w p).history ≡ history ++ entry_of (view p).attempt ∷ []))
   unfolding step_by world_of
   keeps = rw is (history_after terms words history view (view p).attempt act)
 

@@ -8,7 +8,7 @@ use Rattle.meta_word.specs.Meta.{MetaFits, meta_of, meta_word}
 use Rattle.meta_word.specs.Status.{StatusFits, status_of, status_word}
 use Rattle.meta_word.specs.declared.meta.Meta.{Meta}
 use Rattle.meta_word.specs.declared.status.TxnStatus.{TxnStatus}
-use Rattle.stm_model.specs.Accesses.{Act, ClearOwner, LoadClock, LoadMeta, LoadStatus, LoadValue, OfStatus, SetChanging, SetPending, StoreStatus, StoreValue, SwapMeta, TakeClock, TakeMeta, TakeStatus, access_of, answer_of}
+use Rattle.stm_model.specs.Accesses.{Act, ClearOwner, LoadClock, LoadMeta, LoadStatus, LoadValue, OfStatus, SetChanging, SetPending, StoreStatus, StoreValue, SwapMeta, ExchangeClock, ExchangeMeta, ExchangeStatus, access_of, answer_of}
 use Rattle.stm_model.specs.Attempt.{Attempt}
 use Rattle.stm_model.specs.History.{Entry}
 use Rattle.stm_model.specs.After.{same_meta, same_status}
@@ -23,12 +23,12 @@ pub found_word : (terms : Terms) (words : List ℕ) (history : List Entry) (view
     → found (world_of terms words history view) act ≡ answer_of act (word_found terms words (access_of act))
 unfolding found world_of answer_of word_of access_of place_of IsOfTable
 found_word terms words history view LoadClock within = refl
-found_word terms words history view (TakeClock old) within = refl
+found_word terms words history view (ExchangeClock old) within = refl
 found_word terms words history view (LoadStatus p) within = ap OfStatus (status_own terms words p within)
 found_word terms words history view (StoreStatus p new) within = ap OfStatus (status_own terms words p within)
-found_word terms words history view (TakeStatus p old new) within = ap OfStatus (status_own terms words p within)
+found_word terms words history view (ExchangeStatus p old new) within = ap OfStatus (status_own terms words p within)
 found_word terms words history view (LoadMeta cell) within = refl
-found_word terms words history view (TakeMeta cell old new) within = refl
+found_word terms words history view (ExchangeMeta cell old new) within = refl
 found_word terms words history view (SetChanging cell) within = refl
 found_word terms words history view (SetPending cell) within = refl
 found_word terms words history view (ClearOwner cell) within = refl
@@ -103,17 +103,17 @@ module _ (terms : Terms) (words : List ℕ) (history : List Entry) (view : ℕ �
       → words_after w t act ≡ world_of terms (table_after terms words (access_of act)) (words_after w t act).history view
   unfolding words_after world_of word_of access_of place_of effect IsOfTable FieldsFit
   shows_after LoadClock within fit = stays 0
-  shows_after (TakeClock old) within fit =
+  shows_after (ExchangeClock old) within fit =
       takes (nat_eq (get_or words 0 0) old) (nat_eq (get_or words 0 0) old) 0 (suc old) (record w { clock = suc old; history = history ++ entry_of t ∷ [] }) refl
       (set_clock terms words (history ++ entry_of t ∷ []) view table.size (suc old))
   shows_after (LoadStatus p) within fit = stays p
   shows_after (StoreStatus p new) within fit = sym (puts_status p new within fit)
-  shows_after (TakeStatus p old new) within fit =
+  shows_after (ExchangeStatus p old new) within fit =
       takes (same_status (status_in terms words p) old) (nat_eq (get_or words p 0) (status_word old)) p (status_word new) (with_status w p new)
       (ap (λ (status : TxnStatus). same_status status old) (status_own terms words p within) ∙ status_tests (get_or words p 0) old (below p (omega (arith, within.1))) fit.0)
       (puts_status p new within fit.1)
   shows_after (LoadMeta cell) within fit = stays (meta_place cell)
-  shows_after (TakeMeta cell old new) within fit =
+  shows_after (ExchangeMeta cell old new) within fit =
       takes (same_meta (meta_of (get_or words (meta_place cell) 0)) old) (nat_eq (get_or words (meta_place cell) 0) (meta_word old)) (meta_place cell) (meta_word new) (with_meta w cell new)
       (meta_tests (get_or words (meta_place cell) 0) old (below (meta_place cell) (omega (arith, within))) fit.0)
       (puts_meta cell (meta_word new) new within (meta_of-meta_word new fit.1))
@@ -139,16 +139,16 @@ kept_history true history next w same also = also
 kept_history false history next w same also = same
 
 pub history_after : (terms : Terms) (words : List ℕ) (history : List Entry) (view : ℕ → View) (t : Attempt) (act : Act)
-    → (let after = words_after (world_of terms words history view) t act in (after.history ≡ history) ⊎ ((act ≡ TakeClock (get_or words 0 0)) × (after.history ≡ history ++ entry_of t ∷ [])))
+    → (let after = words_after (world_of terms words history view) t act in (after.history ≡ history) ⊎ ((act ≡ ExchangeClock (get_or words 0 0)) × (after.history ≡ history ++ entry_of t ∷ [])))
 unfolding words_after world_of
-history_after terms words history view t (TakeClock old) =
+history_after terms words history view t (ExchangeClock old) =
     let w = world_of terms words history view in
-    taken_history (nat_eq (get_or words 0 0) old) history (record w { clock = suc old; history = history ++ entry_of t ∷ [] }) w t (TakeClock old) (TakeClock (get_or words 0 0)) refl refl
-    (λ same. ap TakeClock (sym (same_number (get_or words 0 0) old same)))
-history_after terms words history view t (TakeStatus p old new) =
+    taken_history (nat_eq (get_or words 0 0) old) history (record w { clock = suc old; history = history ++ entry_of t ∷ [] }) w t (ExchangeClock old) (ExchangeClock (get_or words 0 0)) refl refl
+    (λ same. ap ExchangeClock (sym (same_number (get_or words 0 0) old same)))
+history_after terms words history view t (ExchangeStatus p old new) =
     let w = world_of terms words history view in
     inl (kept_history (same_status (status_in terms words p) old) history (with_status w p new) w refl refl)
-history_after terms words history view t (TakeMeta cell old new) =
+history_after terms words history view t (ExchangeMeta cell old new) =
     let w = world_of terms words history view in
     inl (kept_history (same_meta (meta_of (get_or words (terms.callers + 1 + 2 * cell) 0)) old) history (with_meta w cell new) w refl refl)
 history_after terms words history view t act = inl refl

@@ -3,7 +3,7 @@ use Rattle.std.specs.Prelude.{◌≡◌, ℕ, Some}
 use Rattle.meta_word.specs.declared.meta.Meta.{Meta}
 use Rattle.meta_word.specs.declared.status.Phase.TheVariants.{Active}
 use Rattle.meta_word.specs.declared.status.TxnStatus.{TxnStatus}
-use Rattle.stm_model.specs.Accesses.{TakeClock, next}
+use Rattle.stm_model.specs.Accesses.{ExchangeClock, next}
 use Rattle.stm_model.specs.Attempt.{Attempt, DoomOwner}
 use Rattle.stm_model.specs.World.{Event, Looks, Moves, Steps, Waits, World, attempt_of, with_view}
 
@@ -17,7 +17,7 @@ caller_of (Waits p cell) = p
 -- A caller's attempt makes the exchange of the clock, and wins it.
 pub record WinsClock (w : World) (p : ℕ) (event : Event) : Type 0 where
   pub steps : event ≡ Steps p
-  pub access : next (attempt_of w p) ≡ Some (TakeClock w.clock)
+  pub access : next (attempt_of w p) ≡ Some (ExchangeClock w.clock)
 
 -- An attempt is about to doom the owner of a cell: it has found this status active, and then a cell owned by that one.
 pub record IsToDoom (t : Attempt) (owner : ℕ) (status : TxnStatus) : Type 0 where

@@ -1,6 +1,6 @@
 -- The world as plain data.
 use Rattle.std.specs.Prelude.{◌≡◌, ◌≢◌, ◌⊎◌, ℕ, ◌+◌, ◌*◌, ◌-◌, ◌<◌, ◌≤◌, false, IfSome, IfNone, List, [], ◌∷◌, ◌++◌, length, map, slice_index, slice_index_or, Option, vec_capacity}
-use Rattle.stm_model.specs.Accesses.{Act, TakeClock, access_of}
+use Rattle.stm_model.specs.Accesses.{Act, ExchangeClock, access_of}
 use Rattle.stm_model.specs.After.{after_word}
 use Rattle.stm_model.specs.Attempt.{Attempt, is_in_flight}
 use Rattle.stm_model.specs.Heap.{AreWords}
@@ -18,11 +18,11 @@ use Rattle.opacity.specs.declared.world.Committed.{Committed}
 abbrev pub terms_of : List ℕ → (callers limit : ℕ) → Terms
 terms_of opening callers limit = record { opening = opening; callers = callers; limit = limit }
 
--- The crew shows the attempts of these views, that of caller p at index p - 1.
-pub record IsCrew {V : Type 0} (shows : V → Option Attempt) (callers : ℕ) (crew : List V) (view : ℕ → View) : Type 0 where
-  pub size : length crew ≡ callers
-  pub in_flight : (p : ℕ) (d : V) → 0 < p → p ≤ callers → IfSome (shows (slice_index_or crew (p - 1) d)) (λ t. (view p).attempt ≡ t)
-  pub at_rest : (p : ℕ) (d : V) → 0 < p → p ≤ callers → IfNone (shows (slice_index_or crew (p - 1) d)) (is_in_flight (view p).attempt ≡ false)
+-- The attempts shows the attempts of these views, that of caller p at index p - 1.
+pub record AreAttempts {V : Type 0} (shows : V → Option Attempt) (callers : ℕ) (attempts : List V) (view : ℕ → View) : Type 0 where
+  pub size : length attempts ≡ callers
+  pub in_flight : (p : ℕ) (d : V) → 0 < p → p ≤ callers → IfSome (shows (slice_index_or attempts (p - 1) d)) (λ t. (view p).attempt ≡ t)
+  pub at_rest : (p : ℕ) (d : V) → 0 < p → p ≤ callers → IfNone (shows (slice_index_or attempts (p - 1) d)) (is_in_flight (view p).attempt ≡ false)
 
 -- The access is not the exchange of the clock.
 unfoldable pub IsUndecided : Access → Type 0
@@ -69,4 +69,4 @@ pub record IsTableStep (lawful : List ℕ → Type 0) (may : List ℕ → List �
   pub seen : (view p).seen ≤ (after.view p).seen
   pub table : IsTable terms (table_after terms words (access_of act))
   pub shows : ShowsSafe lawful may terms (table_after terms words (access_of act)) after.history after
-  pub entries : (after.history ≡ history) ⊎ ((act ≡ TakeClock (slice_index words 0)) × (after.history ≡ history ++ entry_of (view p).attempt ∷ []))
+  pub entries : (after.history ≡ history) ⊎ ((act ≡ ExchangeClock (slice_index words 0)) × (after.history ≡ history ++ entry_of (view p).attempt ∷ []))

@@ -3,7 +3,7 @@ use Rattle.std.specs.Prelude.{◌≡◌, ◌<◌, ◌^◌, ℕ, nat_eq, if◌the
 use Rattle.std.specs.Int.{bit_not, w64}
 use Rattle.meta_word.specs.Meta.{MetaFits}
 use Rattle.meta_word.specs.Status.{StatusFits}
-use Rattle.stm_model.specs.Accesses.{Act, StoreStatus, SwapMeta, TakeMeta, TakeStatus}
+use Rattle.stm_model.specs.Accesses.{Act, StoreStatus, SwapMeta, ExchangeMeta, ExchangeStatus}
 use Rattle.stm_model.specs.Heap.{AreWords}
 use Rattle.stm_model.specs.World.{IsCaller, Terms, cells_in, place_of, words_in}
 use Rattle.stm_model.specs.declared.access.Access.{Access}
@@ -53,8 +53,8 @@ IsOfTable terms (Value addr) = addr.0 < cells_in terms
 -- The fields that the access expects and puts fit their words.
 unfoldable pub FieldsFit : Act → Type 0
 FieldsFit (StoreStatus p new) = StatusFits new
-FieldsFit (TakeStatus p old new) = StatusFits old × StatusFits new
-FieldsFit (TakeMeta cell old new) = MetaFits old × MetaFits new
+FieldsFit (ExchangeStatus p old new) = StatusFits old × StatusFits new
+FieldsFit (ExchangeMeta cell old new) = MetaFits old × MetaFits new
 FieldsFit (SwapMeta cell new) = MetaFits new
 FieldsFit act = Unit {0}
 

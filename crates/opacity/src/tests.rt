@@ -18,15 +18,15 @@ fn two(rt: &HostRuntime) -> Result<World<Free>, Fail>
 #[tactic(auto, unfolding(crate::specs::Words::IsOfTable, crate::specs::Words::word_of, crate::specs::Plain::IsUndecided))]
 fn each_kind_of_access_changes_its_word(rt: HostRuntime) -> Result<(), Fail> {
     let mut world = two(&rt)?;
-    let crew = [Rest, Rest];
+    let attempts = [Rest, Rest];
     let value = Word::Value(Addr(1));
     assert_eq!(rt; world.clock(), 0);
     assert_eq!(rt; world.word(value), 7);
-    assert_eq!(rt; world.act(1, Access::Store(value, 12), &crew), 7);
-    assert_eq!(rt; world.act(1, Access::SetBits(value, 3), &crew), 12);
-    assert_eq!(rt; world.act(2, Access::ClearBits(value, 5), &crew), 15);
-    assert_eq!(rt; world.act(2, Access::Swap(value, 1), &crew), 10);
-    assert_eq!(rt; world.act(2, Access::Load(value), &crew), 1);
+    assert_eq!(rt; world.act(1, Access::Store(value, 12), &attempts), 7);
+    assert_eq!(rt; world.act(1, Access::SetBits(value, 3), &attempts), 12);
+    assert_eq!(rt; world.act(2, Access::ClearBits(value, 5), &attempts), 15);
+    assert_eq!(rt; world.act(2, Access::Swap(value, 1), &attempts), 10);
+    assert_eq!(rt; world.act(2, Access::Load(value), &attempts), 1);
     Ok(())
 }
 
@@ -52,13 +52,13 @@ fn cell_of(owner: u16, version: u64) -> u64
 #[tactic(auto, unfolding(crate::specs::Words::IsOfTable, crate::specs::Words::word_of, crate::specs::Plain::IsUndecided))]
 fn a_write_is_committed(rt: HostRuntime) -> Result<(), Fail> {
     let mut world = World::new(rt.alloc(), Free, 1, 100, &[0])?;
-    let crew = [Rest];
+    let attempts = [Rest];
     let (status, meta, value) = (Word::Status(1), Word::Meta(Addr(0)), Word::Value(Addr(0)));
     let active = first_in(Phase::Active);
     let preparing = first_in(Phase::Preparing);
-    world.act(1, Access::Store(status, active), &crew);
-    assert_eq!(rt; world.act(1, Access::Load(Word::Clock), &crew), 0);
-    let found = world.act(1, Access::Load(meta), &crew);
+    world.act(1, Access::Store(status, active), &attempts);
+    assert_eq!(rt; world.act(1, Access::Load(Word::Clock), &attempts), 0);
+    let found = world.act(1, Access::Load(meta), &attempts);
     let own = cell_of(1, 0);
     world.act(
         1,
@@ -67,7 +67,7 @@ fn a_write_is_committed(rt: HostRuntime) -> Result<(), Fail> {
             old: found,
             new: own,
         },
-        &crew,
+        &attempts,
     );
     assert_eq!(rt; world.word(meta), own);
     world.act(
@@ -77,10 +77,10 @@ fn a_write_is_committed(rt: HostRuntime) -> Result<(), Fail> {
             old: active,
             new: preparing,
         },
-        &crew,
+        &attempts,
     );
-    world.act(1, Access::SetBits(meta, CHANGING_BIT), &crew);
-    assert_eq!(rt; world.act(1, Access::Load(Word::Clock), &crew), 0);
+    world.act(1, Access::SetBits(meta, CHANGING_BIT), &attempts);
+    assert_eq!(rt; world.act(1, Access::Load(Word::Clock), &attempts), 0);
     let mut writes = Vec::new(rt.alloc());
     writes.push(Note {
         addr: Addr(0),
@@ -89,11 +89,11 @@ fn a_write_is_committed(rt: HostRuntime) -> Result<(), Fail> {
     })?;
     let reads = Vec::new(rt.alloc());
     world.reserve(0, 1)?;
-    assert_eq!(rt; world.decide(1, 0, &crew, &reads, &writes)?, 0);
+    assert_eq!(rt; world.decide(1, 0, &attempts, &reads, &writes)?, 0);
     assert_eq!(rt; world.clock(), 1);
-    world.act(1, Access::Store(value, 9), &crew);
-    world.act(1, Access::Swap(meta, cell_of(0, 1)), &crew);
-    world.act(1, Access::Store(status, first_in(Phase::Idle)), &crew);
+    world.act(1, Access::Store(value, 9), &attempts);
+    world.act(1, Access::Swap(meta, cell_of(0, 1)), &attempts);
+    world.act(1, Access::Store(status, first_in(Phase::Idle)), &attempts);
     assert_eq!(rt; world.word(value), 9);
     assert_eq!(rt; world.word(meta), cell_of(0, 1));
     assert_eq!(rt; world.history.len(), 1);

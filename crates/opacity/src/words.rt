@@ -2,7 +2,7 @@
 ghost use Rattle.std.specs.Prelude.{◌≡◌, ◌⊎◌, ◌++◌, ◌∷◌, [], ℕ, List, Some, slice_index};
 ghost use Rattle.opacity.specs.Plain.{IsTableStep};
 ghost use Rattle.opacity.specs.Words.{BringsWords, FieldsFit, IsOfTable, IsTable, table_after, word_found, word_of};
-ghost use Rattle.stm_model.specs.Accesses.{Act, TakeClock, access_of, answer_of, next};
+ghost use Rattle.stm_model.specs.Accesses.{Act, ExchangeClock, access_of, answer_of, next};
 ghost use Rattle.stm_model.specs.Attempt.{Attempt};
 ghost use Rattle.stm_model.specs.History.{Entry};
 ghost use Rattle.stm_model.specs.Safe.{Safe};
@@ -27,7 +27,7 @@ pub fn the_words_show_the_world_after()
         ≡ world_of terms (table_after terms words (access_of act)) (words_after (world_of terms words history view) t act).history view }
     ensures history { (terms : Terms) (words : List ℕ) (history : List Entry) (view : ℕ → View) (t : Attempt) (act : Act) →
         (let after = words_after (world_of terms words history view) t act in (after.history ≡ history)
-        ⊎ ((act ≡ TakeClock (slice_index words 0)) × (after.history ≡ history ++ entry_of t ∷ []))) }
+        ⊎ ((act ≡ ExchangeClock (slice_index words 0)) × (after.history ≡ history ++ entry_of t ∷ []))) }
 {}
 
 /// In a safe world the access that a caller's attempt makes next goes to a word of the table, and the fields

@@ -1,9 +1,9 @@
 //! The world as plain data.
 ghost use Rattle.std.specs.Prelude.{◌≡◌, ◌+◌, ◌*◌, ◌<◌, ◌^◌, ◌≤◌, ◌++◌, ◌∷◌, ◌≢◌, ℕ, List, [], IfOk, OnErr, OnOk, Some, length, slice_index, slice_set, vec_capacity, IsOk};
 ghost use Rattle.meta_word.specs.declared.meta.TheConstants.{MAX_OWNER, MAX_VERSION};
-ghost use Rattle.opacity.specs.Plain.{HasRoom, IsCrew, IsUndecided, OpensTo, ShowsSafe, entry_in, history_of, terms_of, writes_in};
+ghost use Rattle.opacity.specs.Plain.{HasRoom, AreAttempts, IsUndecided, OpensTo, ShowsSafe, entry_in, history_of, terms_of, writes_in};
 ghost use Rattle.opacity.specs.Words.{BringsWords, IsOfTable, effect, table_after, word_found, word_of};
-ghost use Rattle.stm_model.specs.Accesses.{LoadClock, SetPending, TakeClock, access_of, next, next_access};
+ghost use Rattle.stm_model.specs.Accesses.{LoadClock, SetPending, ExchangeClock, access_of, next, next_access};
 ghost use Rattle.stm_model.specs.Attempt.{Ended};
 ghost use Rattle.opacity.specs.Facts.{AreWords-prop};
 ghost use Rattle.stm_model.specs.Heap.{AreWords};
@@ -219,7 +219,7 @@ impl<L: Law + Drop> World<L> {
     /// Makes the access that a caller's shown attempt makes next, and gives the word that it found. What the
     /// words show afterwards, with the history and the views after the step, is the world after it, and safe.
     /// A caller that has none in flight may look at the clock, or wait for a cell.
-    pub fn act<V: Shown>(&mut self, caller: u16, access: Access, crew: &[V]) -> u64
+    pub fn act<V: Shown>(&mut self, caller: u16, access: Access, attempts: &[V]) -> u64
         requires caller { IsCaller (terms_of self.old.opening.items self.old.callers self.old.limit) caller }
         requires word { IsOfTable (terms_of self.old.opening.items self.old.callers self.old.limit) (word_of access) }
         requires undecided { IsUndecided access }
@@ -231,15 +231,15 @@ impl<L: Law + Drop> World<L> {
         ensures opening { self.new.opening ≡ self.old.opening }
         ensures callers { self.new.callers ≡ self.old.callers }
         ensures limit { self.new.limit ≡ self.old.limit }
-        ensures step { (history : List Entry) (view : ℕ → View) → IsCrew V.shows self.old.callers crew.now view →
+        ensures step { (history : List Entry) (view : ℕ → View) → AreAttempts V.shows self.old.callers attempts.now view →
             (let terms = terms_of self.old.opening.items self.old.callers self.old.limit in let w = world_of terms self.old.words.items history view in
             Safe (L.lawful self.old.law) (L.may self.old.law) terms w → next_access (view caller).attempt ≡ Some access →
             ShowsSafe (L.lawful self.old.law) (L.may self.old.law) terms self.new.words.items history (step w caller)) }
-        ensures look { (history : List Entry) (view : ℕ → View) → IsCrew V.shows self.old.callers crew.now view →
+        ensures look { (history : List Entry) (view : ℕ → View) → AreAttempts V.shows self.old.callers attempts.now view →
             (let terms = terms_of self.old.opening.items self.old.callers self.old.limit in let w = world_of terms self.old.words.items history view in
             Safe (L.lawful self.old.law) (L.may self.old.law) terms w → (view caller).attempt.stage ≡ Ended → access ≡ access_of LoadClock →
             ShowsSafe (L.lawful self.old.law) (L.may self.old.law) terms self.new.words.items history (look w caller)) }
-        ensures wait { (history : List Entry) (view : ℕ → View) (cell : ℕ) → IsCrew V.shows self.old.callers crew.now view →
+        ensures wait { (history : List Entry) (view : ℕ → View) (cell : ℕ) → AreAttempts V.shows self.old.callers attempts.now view →
             (let terms = terms_of self.old.opening.items self.old.callers self.old.limit in let w = world_of terms self.old.words.items history view in
             Safe (L.lawful self.old.law) (L.may self.old.law) terms w → (view caller).attempt.stage ≡ Ended → cell < cells_in terms → access ≡ access_of (SetPending cell) →
             ShowsSafe (L.lawful self.old.law) (L.may self.old.law) terms self.new.words.items history (wait w caller cell)) }
@@ -296,7 +296,7 @@ impl<L: Law + Drop> World<L> {
         &mut self,
         caller: u16,
         old: u64,
-        crew: &[V],
+        attempts: &[V],
         reads: &N,
         writes: &W,
     ) -> Result<u64, Memory>
@@ -312,10 +312,10 @@ impl<L: Law + Drop> World<L> {
         ensures opening { self.new.opening ≡ self.old.opening }
         ensures callers { self.new.callers ≡ self.old.callers }
         ensures limit { self.new.limit ≡ self.old.limit }
-        ensures step { OnOk result ((view : ℕ → View) → IsCrew V.shows self.old.callers crew.now view →
+        ensures step { OnOk result ((view : ℕ → View) → AreAttempts V.shows self.old.callers attempts.now view →
             (let terms = terms_of self.old.opening.items self.old.callers self.old.limit in let w = world_of terms self.old.words.items (history_of self.old.history.items) view in
             let t = (view caller).attempt in
-            Safe (L.lawful self.old.law) (L.may self.old.law) terms w → next t ≡ Some (TakeClock old) → N.notes reads.now ≡ t.notes → writes_in (W.notes writes.now) ≡ t.now.writes →
+            Safe (L.lawful self.old.law) (L.may self.old.law) terms w → next t ≡ Some (ExchangeClock old) → N.notes reads.now ≡ t.notes → writes_in (W.notes writes.now) ≡ t.now.writes →
             MeetsOwed (L.lawful self.old.law) (L.may self.old.law) terms w (Steps caller) →
             ShowsSafe (L.lawful self.old.law) (L.may self.old.law) terms self.new.words.items (history_of self.new.history.items) (step w caller))) }
     {

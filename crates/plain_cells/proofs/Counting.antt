@@ -4,7 +4,7 @@ use Rattle.std.specs.Prelude.{Result, Ok, Err, MatchResult}
 use Rattle.stm_model.specs.declared.cause.Cause.{Cause}
 use Rattle.stm_model.specs.declared.cause.HookPhase.{HookPhase}
 use Rattle.stm_model.specs.Heap.{over, put}
-use Rattle.stm_model.specs.CellsState.{Book, CellsState, written, delayed, hooked}
+use Rattle.stm_model.specs.CellsState.{Book, CellsState, written, late_registered, hooked}
 use Rattle.stm_model.specs.Telling.{Does, Extends, Got, Leads, Refused}
 use Rattle.stm_model.specs.Ran.{Grows, Ran}
 use Rattle.stm_model.proofs.CellsLemmas.{Extends-refl, Extends-append}
@@ -19,11 +19,11 @@ pub Ran-counted : (lawful : List ℕ → Type 0) (may : List ℕ → List ℕ �
     → ((heap : List ℕ) (book : Book) → get_or (over heap book.writes) address 0 ≡ value
     → means heap book (Ok value) (record book { writes = put book.writes address (value + 1); laters = book.laters ++ value ∷ [] }))
     → ((heap : List ℕ) (book : Book) → leaves heap book)
-    → Got lawful address value s m → Does (written address (value + 1)) m n → Does (delayed value) n t
+    → Got lawful address value s m → Does (written address (value + 1)) m n → Does (late_registered value) n t
     → Ran lawful may means leaves (Ok value) s t
 Ran-counted lawful may means leaves address value s m n t all any so left got wrote put_off =
-    let is : t ≡ delayed value (written address (value + 1) (record s { reads = m.reads })) =
-    put_off.is ∙ ap (delayed value) (wrote.is ∙ ap (written address (value + 1)) got.only_reads) in
+    let is : t ≡ late_registered value (written address (value + 1) (record s { reads = m.reads })) =
+    put_off.is ∙ ap (late_registered value) (wrote.is ∙ ap (written address (value + 1)) got.only_reads) in
     let reads : Extends s.reads t.reads = rw is ((learned_got lawful address value s m got).reads) in
     let now : t.now ≡ record s.now { writes = put s.now.writes address (value + 1); laters = s.now.laters ++ value ∷ [] } = ap (λ (x : CellsState). x.now) is in
     Ran-calls lawful may means leaves value s t got.going (ap (λ (x : CellsState). x.size) is) reads (ap (λ (x : CellsState). x.saved) is)

@@ -2,10 +2,10 @@
 use Rattle.std.proofs.Common.{◌≡◌, ℕ, ◌<◌, ◌≤◌, IfSome, IsSome, List, [], ◌∷◌, length, Option, Some, None, refl, sym, subst, arith}
 use Rattle.stm_core.specs.Machine.{ClockFits, FindsClock, IsDue, IsToBeAsked, MakesAccess, after_due, made, next_of, over, standing}
 use Rattle.stm_core.specs.declared.next.Next.{Next}
-use Rattle.stm_core.specs.declared.next.Next.TheVariants.{Before, Reply as ToReply, Ring as ToRing, Run as ToRun}
-use Rattle.stm_core.specs.declared.next.Reply.TheVariants.{Ended as IsOver, Ready as IsReady, Stopped as IsStopped, Value}
+use Rattle.stm_core.specs.declared.next.Next.TheVariants as coming
+use Rattle.stm_core.specs.declared.next.Reply.TheVariants as reply
 use Rattle.stm_model.specs.declared.ending.Ending.{Ending}
-use Rattle.stm_model.specs.Accesses.{Act, LoadClock, TakeClock, access_of, addr_of, next, next_at, packed, unless_due}
+use Rattle.stm_model.specs.Accesses.{Act, LoadClock, ExchangeClock, access_of, addr_of, next, next_at, packed, unless_due}
 use Rattle.stm_model.specs.Attempt.{Attempt, Due, Ended, Late, Ready, Ring, Run, Stage, Stopped}
 use Rattle.stm_model.specs.Moves.{AwaitsAsk, AwaitsAskAt}
 
@@ -23,7 +23,7 @@ record Allows (t : Attempt) (stage : Stage) (result : Next) : Type 0 where
 fits_act : (t : Attempt) (act : Act) (answer : ℕ) (result : Next) → made (packed (Some act)) ≡ Some result → (FindsClock result → answer ≤ t.settings.clock) → ClockFits t (Some act) answer
 unfolding FindsClock ClockFits access_of
 fits_act t LoadClock answer result is fits = carried (λ n. FindsClock n → answer ≤ t.settings.clock) (sym is) fits tt
-fits_act t (TakeClock old) answer result is fits = carried (λ n. FindsClock n → answer ≤ t.settings.clock) (sym is) fits tt
+fits_act t (ExchangeClock old) answer result is fits = carried (λ n. FindsClock n → answer ≤ t.settings.clock) (sym is) fits tt
 fits_act t _ answer result is fits = tt
 
 -- an access is neither due nor a reply
@@ -32,7 +32,7 @@ IsNoOther result = (IsDue result → ⊥) × (IsToBeAsked result → ⊥)
 
 no_other : (act : Act) (result : Next) → made (packed (Some act)) ≡ Some result → IsNoOther result
 unfolding IsDue IsToBeAsked access_of
-no_other (TakeClock old) result is = carried IsNoOther is ((λ x. x), (λ x. x))
+no_other (ExchangeClock old) result is = carried IsNoOther is ((λ x. x), (λ x. x))
 no_other _ result is = carried IsNoOther is ((λ x. x), (λ x. x))
 
 -- where it makes this access
@@ -58,14 +58,14 @@ rest_allows t stage here result none makes due waits is =
 over_allows : (t : Attempt) (ending : Option Ending) (result : Next) → next_at t Ended ≡ None → over ending ≡ Some result → Allows t Ended result
 unfolding MakesAccess IsDue IsToBeAsked
 over_allows t None result none is = absurd (cc is)
-over_allows t (Some ending) result none is = rest_allows t Ended (ToReply (IsOver ending)) result none (λ x. x) (λ x. x) (λ x. absurd x) is
+over_allows t (Some ending) result none is = rest_allows t Ended (coming.Reply (reply.Ended ending)) result none (λ x. x) (λ x. x) (λ x. absurd x) is
 
 stage_allows : (t : Attempt) (stage : Stage) (result : Next) → standing t stage ≡ Some result → Allows t stage result
 unfolding standing next_at MakesAccess IsDue IsToBeAsked AwaitsAskAt
-stage_allows t (Ready None) result is = rest_allows t (Ready None) (ToReply IsReady) result refl (λ x. x) (λ x. x) (λ x. tt) is
-stage_allows t (Ready (Some value)) result is = rest_allows t (Ready (Some value)) (ToReply (Value value)) result refl (λ x. x) (λ x. x) (λ x. tt) is
-stage_allows t (Late token) result is = rest_allows t (Late token) (Before token) result refl (λ x. x) (λ x. x) (λ x. tt) is
-stage_allows t (Stopped cause) result is = rest_allows t (Stopped cause) (ToReply (IsStopped cause)) result refl (λ x. x) (λ x. x) (λ x. tt) is
+stage_allows t (Ready None) result is = rest_allows t (Ready None) (coming.Reply reply.Ready) result refl (λ x. x) (λ x. x) (λ x. tt) is
+stage_allows t (Ready (Some value)) result is = rest_allows t (Ready (Some value)) (coming.Reply (reply.Value value)) result refl (λ x. x) (λ x. x) (λ x. tt) is
+stage_allows t (Late token) result is = rest_allows t (Late token) (coming.Before token) result refl (λ x. x) (λ x. x) (λ x. tt) is
+stage_allows t (Stopped cause) result is = rest_allows t (Stopped cause) (coming.Reply (reply.Stopped cause)) result refl (λ x. x) (λ x. x) (λ x. tt) is
 stage_allows t Ended result is = over_allows t t.ending result refl is
 stage_allows t _ result is = acts_allow t _ _ result refl is
 
@@ -94,8 +94,8 @@ due_allows t [] result none is = let allows = stage_allows t t.stage result is i
   due = λ due. absurd (allows.due due);
   waits = λ asked. record { stands = allows.waits asked; nothing_due = none };
 }
-due_allows t (Run phase token ∷ dues) result some is = dues_allow t (Run phase token) dues (ToRun phase token) result some (λ x. x) (λ x. x) is
-due_allows t (Ring cell ∷ dues) result some is = dues_allow t (Ring cell) dues (ToRing (addr_of cell)) result some (λ x. x) (λ x. x) is
+due_allows t (Run phase token ∷ dues) result some is = dues_allow t (Run phase token) dues (coming.Run phase token) result some (λ x. x) (λ x. x) is
+due_allows t (Ring cell ∷ dues) result some is = dues_allow t (Ring cell) dues (coming.Ring (addr_of cell)) result some (λ x. x) (λ x. x) is
 
 pub allows_calls : (t : Attempt) (result : Next) → next_of t ≡ Some result → AllowsCalls t result
 allows_calls t result is = due_allows t t.due result refl is

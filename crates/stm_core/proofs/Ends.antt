@@ -5,20 +5,20 @@ use Rattle.op_commit.specs.Back as way_back
 use Rattle.op_commit.specs.Commit as commit
 use Rattle.op_commit.specs.declared.acquire.AcquireEnd.{AcquireEnd}
 use Rattle.op_commit.specs.declared.acquire.AcquirePlace.{AcquirePlace}
-use Rattle.op_commit.specs.declared.acquire.AcquirePlace.TheVariants.{Ended as OwnEnded}
+use Rattle.op_commit.specs.declared.acquire.AcquirePlace.TheVariants as at_acquire
 use Rattle.op_commit.specs.declared.back.BackEnd.{BackEnd}
 use Rattle.op_commit.specs.declared.back.BackOp.{BackOp}
 use Rattle.op_commit.specs.declared.back.BackPlace.{BackPlace}
-use Rattle.op_commit.specs.declared.back.BackPlace.TheVariants.{Ended as BackEnded}
+use Rattle.op_commit.specs.declared.back.BackPlace.TheVariants as at_back
 use Rattle.op_commit.specs.declared.commit.CommitEnd.{CommitEnd}
 use Rattle.op_commit.specs.declared.commit.CommitOp.{CommitOp}
 use Rattle.op_commit.specs.declared.commit.CommitPlace.{CommitPlace}
-use Rattle.op_commit.specs.declared.commit.CommitPlace.TheVariants.{Ended as CommitEnded}
+use Rattle.op_commit.specs.declared.commit.CommitPlace.TheVariants as at_commit
 use Rattle.op_read.specs.Extend as extension
 use Rattle.op_read.specs.Read as read
 use Rattle.op_read.specs.declared.extend.ExtendEnd.{ExtendEnd}
 use Rattle.op_read.specs.declared.extend.ExtendPlace.{ExtendPlace}
-use Rattle.op_read.specs.declared.extend.ExtendPlace.TheVariants.{Ended as ExtendEnded}
+use Rattle.op_read.specs.declared.extend.ExtendPlace.TheVariants as at_extend
 use Rattle.meta_word.specs.declared.status.Phase.TheVariants.{Idle}
 use Rattle.op_commit.specs.Buffered.{ring_for}
 use Rattle.stm_model.specs.After.{at, final_runs, run_all}
@@ -28,26 +28,26 @@ use Rattle.stm_model.specs.declared.ending.Ending.{Ending}
 use Rattle.stm_model.specs.declared.ending.Ending.TheVariants.{Committed, Read as ToRead, Rolled}
 use Rattle.op_read.specs.declared.read.ReadEnd.{ReadEnd}
 use Rattle.op_read.specs.declared.read.ReadPlace.{ReadPlace}
-use Rattle.op_read.specs.declared.read.ReadPlace.TheVariants.{Ended as ReadEnded}
+use Rattle.op_read.specs.declared.read.ReadPlace.TheVariants as at_read
 
-pub read_over : (place : ReadPlace) (end : ReadEnd) → read.ended_at place ≡ Some end → place ≡ ReadEnded end
-read_over (ReadEnded other) end over = cc over
+pub read_over : (place : ReadPlace) (end : ReadEnd) → read.ended_at place ≡ Some end → place ≡ at_read.Ended end
+read_over (at_read.Ended other) end over = cc over
 read_over _ end over = cc over
 
-pub extension_over : (place : ExtendPlace) (end : ExtendEnd) → extension.end_at place ≡ Some end → place ≡ ExtendEnded end
-extension_over (ExtendEnded other) end over = cc over
+pub extension_over : (place : ExtendPlace) (end : ExtendEnd) → extension.end_at place ≡ Some end → place ≡ at_extend.Ended end
+extension_over (at_extend.Ended other) end over = cc over
 extension_over _ end over = cc over
 
-pub write_over : (place : AcquirePlace) (end : AcquireEnd) → first_write.end_at place ≡ Some end → place ≡ OwnEnded end
-write_over (OwnEnded other) end over = cc over
+pub write_over : (place : AcquirePlace) (end : AcquireEnd) → first_write.end_at place ≡ Some end → place ≡ at_acquire.Ended end
+write_over (at_acquire.Ended other) end over = cc over
 write_over _ end over = cc over
 
-pub commit_over : (place : CommitPlace) (end : CommitEnd) → commit.end_at place ≡ Some end → place ≡ CommitEnded end
-commit_over (CommitEnded other) end over = cc over
+pub commit_over : (place : CommitPlace) (end : CommitEnd) → commit.end_at place ≡ Some end → place ≡ at_commit.Ended end
+commit_over (at_commit.Ended other) end over = cc over
 commit_over _ end over = cc over
 
-pub back_over : (place : BackPlace) (end : BackEnd) → way_back.end_at place ≡ Some end → place ≡ BackEnded end
-back_over (BackEnded other) end over = cc over
+pub back_over : (place : BackPlace) (end : BackEnd) → way_back.end_at place ≡ Some end → place ≡ at_back.Ended end
+back_over (at_back.Ended other) end over = cc over
 back_over _ end over = cc over
 
 -- What is due is none of a commit's concern, nor of a way back's.
@@ -71,12 +71,12 @@ due_at_end : (t : Attempt) (rung : Option Addr) → t.now.hooks ≡ [] → ring_
 due_at_end t rung none = ap (λ hooks. ring_for rung ++ run_all (final_runs t.ending hooks)) none ∙ ap (λ dues. ring_for rung ++ dues) (no_final_runs t.ending) ∙ append-nil (ring_for rung)
 
 back_ends_at : (first : ℕ) (rung : Option Addr) (t : Attempt) (end : BackEnd) → t.now.hooks ≡ [] →
-    way_back.backing_at (BackEnded end) first true (record t { due = way_back.due_at (BackEnded end) true rung t }) ≡ at (record t { phase = Idle; due = ring_for rung }) Ended
+    way_back.backing_at (at_back.Ended end) first true (record t { due = way_back.due_at (at_back.Ended end) true rung t }) ≡ at (record t { phase = Idle; due = ring_for rung }) Ended
 back_ends_at first rung t end none = ap (λ dues. at (record t { phase = Idle; due = dues }) Ended) (due_at_end t rung none)
 
-pub back_ends : (op : BackOp) (t : Attempt) (end : BackEnd) → op.place ≡ BackEnded end → op.whole ≡ true → t.now.hooks ≡ [] →
+pub back_ends : (op : BackOp) (t : Attempt) (end : BackEnd) → op.place ≡ at_back.Ended end → op.whole ≡ true → t.now.hooks ≡ [] →
     way_back.backing op (record t { due = way_back.due_by op t }) ≡ at (record t { phase = Idle; due = ring_for op.rung }) Ended
 back_ends op t end place whole none =
     subst (λ p. way_back.backing_at p op.first op.whole (record t { due = way_back.due_at p op.whole op.rung t }) ≡ at (record t { phase = Idle; due = ring_for op.rung }) Ended) (sym place)
-    (subst (λ w. way_back.backing_at (BackEnded end) op.first w (record t { due = way_back.due_at (BackEnded end) w op.rung t }) ≡ at (record t { phase = Idle; due = ring_for op.rung }) Ended) (sym whole)
+    (subst (λ w. way_back.backing_at (at_back.Ended end) op.first w (record t { due = way_back.due_at (at_back.Ended end) w op.rung t }) ≡ at (record t { phase = Idle; due = ring_for op.rung }) Ended) (sym whole)
     (back_ends_at op.first op.rung t end none))

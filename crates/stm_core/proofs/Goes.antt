@@ -3,7 +3,7 @@ use Rattle.std.proofs.Common.{◌≡◌, false, IfSome, IsSome, Option, Some, No
 use Rattle.op_commit.specs.Buffered.{ring_for}
 use Rattle.stm_core.proofs.Stands.{rests_at, stands}
 use Rattle.stm_core.specs.Machine.{after_due, made, named, next_of, standing}
-use Rattle.stm_core.specs.Running.{HoldsAt, base, standing_so}
+use Rattle.stm_core.specs.Running.{InvariantAt, base, attempt_at}
 use Rattle.stm_core.specs.declared.next.Next.{Next}
 use Rattle.stm_core.specs.declared.running.Running.{Running}
 use Rattle.stm_core.specs.declared.running.State.{State}
@@ -31,8 +31,8 @@ makes t access result acts nothing same is =
     ∙ from_act (next_at t t.stage) access result acts (same ∙ ap (λ d. packed (unless_due d (next_at t t.stage))) nothing) is
 
 -- So it does wherever it stands, unless it rests.
-pub goes : (r : Running) (state : State) (access : Option Access) (result : Next) → HoldsAt r state → rests_at state ≡ false → r.due ≡ None →
-    access ≡ next_access (standing_so (base r) state) → IfSome access (λ a. result ≡ named a) → next_of (standing_so (base r) state) ≡ Some result
+pub goes : (r : Running) (state : State) (access : Option Access) (result : Next) → InvariantAt r state → rests_at state ≡ false → r.due ≡ None →
+    access ≡ next_access (attempt_at (base r) state) → IfSome access (λ a. result ≡ named a) → next_of (attempt_at (base r) state) ≡ Some result
 goes r state access result holds going nothing =
     let here = stands r (base r) state holds in
-    makes (standing_so (base r) state) access result (here.acts going) (here.same.due ∙ ap ring_for nothing)
+    makes (attempt_at (base r) state) access result (here.acts going) (here.same.due ∙ ap ring_for nothing)

@@ -4,7 +4,7 @@ use Rattle.op_commit.specs.Buffered.{ring_for}
 use Rattle.stm_core.proofs.Shown.{shown_alike}
 use Rattle.stm_core.proofs.Stands.{stands, with_rings}
 use Rattle.stm_core.specs.Rung.{cells_in}
-use Rattle.stm_core.specs.Running.{HoldsAt, IsSound, base, shown}
+use Rattle.stm_core.specs.Running.{InvariantAt, IsSound, base, shown}
 use Rattle.stm_core.specs.declared.rung.Rung.{Rung}
 use Rattle.stm_core.specs.declared.running.Running.{Running}
 use Rattle.stm_core.specs.declared.running.State.{State}
@@ -27,8 +27,8 @@ rings_one r addr cells sound due added =
     ∙ ap (λ list. with_rings t [] list) (added ∙ ap (λ list. list ++ addr.0 ∷ []) (sym before))
     ∙ sym (ap (λ dues. did_first t dues) first)
 
-holds_so : (r : Running) (cells : Rung) (state : State) → HoldsAt r state → HoldsAt (rung_in r cells) state
-unfolding HoldsAt
+holds_so : (r : Running) (cells : Rung) (state : State) → InvariantAt r state → InvariantAt (rung_in r cells) state
+unfolding InvariantAt
 holds_so r cells (Read op) holds = record { made_for = record { own = holds.made_for.own; prefix = holds.made_for.prefix }; going = holds.going; room = holds.room }
 holds_so r cells (Extend reading first op) holds = record {
   made_for = record { own = holds.made_for.own };

@@ -1,7 +1,7 @@
 -- More room changes nothing else.
 use Rattle.std.proofs.Common.{◌≡◌, ℕ, ◌≤◌, List, sym, subst, ap, ◌∙◌, arith}
 use Rattle.read_set.specs.Reads.{Reads}
-use Rattle.stm_core.specs.Running.{HoldsAt, IsSound, left_in, shown}
+use Rattle.stm_core.specs.Running.{InvariantAt, IsSound, left_in, shown}
 use Rattle.stm_core.specs.declared.running.Running.{Running}
 use Rattle.stm_core.specs.declared.running.State.{State}
 use Rattle.stm_core.specs.declared.running.State.TheVariants.{Announce, Back, Begin, Commit, Ended, Extend, Read, Ready, Stopped, Write}
@@ -15,8 +15,8 @@ module _ (r : Running) (spare cells rewrites : ℕ) (replaced : List (ℕ × ℕ
   abbrev roomier : Running
   roomier = with_room r (record { notes = r.footprint.reads.notes; spare = spare }) (record { writes = r.footprint.writes.writes; replaced = replaced; spare = cells; spare_rewrites = rewrites })
 
-  holds_still : (state : State) → HoldsAt r state → HoldsAt roomier state
-  unfolding HoldsAt
+  holds_still : (state : State) → InvariantAt r state → InvariantAt roomier state
+  unfolding InvariantAt
   holds_still Announce holds = holds
   holds_still Begin holds = holds
   holds_still (Ready told) holds = holds

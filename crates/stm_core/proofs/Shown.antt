@@ -2,11 +2,11 @@
 use Rattle.std.proofs.Common.{◌≡◌, ◌^◌, IsSome, [], Option, Some, None, refl, sym, ap, ◌∙◌, subst}
 use Rattle.op_commit.specs.Buffered.{ring_for}
 use Rattle.stm_core.proofs.Stands.{Same, stands}
-use Rattle.stm_core.specs.Running.{IsSound, KeepsNumbers, base, machine_of, shown, standing_so}
+use Rattle.stm_core.specs.Running.{IsSound, KeepsNumbers, base, machine_of, shown, attempt_at}
 use Rattle.stm_core.specs.declared.running.Running.{Running}
 use Rattle.stm_core.specs.declared.running.State.TheVariants.{Ended}
 use Rattle.stm_core.specs.Machine.{IsAtRest, IsSameAttempt, Machine, after_due, next_of, standing}
-use Rattle.stm_core.specs.declared.next.Next.TheVariants.{Ring as ToRing}
+use Rattle.stm_core.specs.declared.next.Next.TheVariants as coming
 use Rattle.stm_model.specs.declared.cause.Addr.{Addr}
 use Rattle.stm_model.specs.declared.ending.Ending.{Ending}
 use Rattle.stm_model.specs.Accesses.{next, next_at, unless_due}
@@ -28,7 +28,7 @@ pub nothing_due : (r : Running) → IsSound r → IsSome (next (shown r)) → r.
 nothing_due r sound some = due_first r.due (shown r) (shown_alike r sound).due some
 
 -- What is due is rung for next.
-pub rings_first : (r : Running) (addr : Addr) → IsSound r → r.due ≡ Some addr → next_of (shown r) ≡ Some (ToRing addr)
+pub rings_first : (r : Running) (addr : Addr) → IsSound r → r.due ≡ Some addr → next_of (shown r) ≡ Some (coming.Ring addr)
 unfolding after_due
 rings_first r addr sound is = ap (λ d. after_due d (standing (shown r) (shown r).stage)) ((shown_alike r sound).due ∙ ap ring_for is)
 
@@ -43,8 +43,8 @@ nothing_due_at_rest r sound nothing = no_due r.due (shown r) (shown_alike r soun
 -- ---- how it ends
 
 pub at_rest : (r : Running) (ending : Ending) → r.state ≡ Ended ending → IsAtRest (shown r) ending
-unfolding standing_so held_at
-at_rest r ending is = subst (λ state. IsAtRest (standing_so (base r) state) ending) (sym is) (record { stage = refl; ends = refl; phase = refl; holds_none = λ cell. refl })
+unfolding attempt_at held_at
+at_rest r ending is = subst (λ state. IsAtRest (attempt_at (base r) state) ending) (sym is) (record { stage = refl; ends = refl; phase = refl; holds_none = λ cell. refl })
 
 -- Whoever is asked for what it has, has it in its footprint.
 pub notes_shown : (r : Running) (m : Machine) → IsSound r → machine_of r ≡ m → r.footprint.reads.notes ≡ m.attempt.notes

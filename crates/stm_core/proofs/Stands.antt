@@ -6,27 +6,27 @@ use Rattle.op_commit.specs.Back as way_back
 use Rattle.op_commit.specs.Commit as commit
 use Rattle.op_commit.specs.declared.acquire.AcquireOp.{AcquireOp}
 use Rattle.op_commit.specs.declared.acquire.AcquirePlace.{AcquirePlace}
-use Rattle.op_commit.specs.declared.acquire.AcquirePlace.TheVariants.{Ended as OwnEnded}
+use Rattle.op_commit.specs.declared.acquire.AcquirePlace.TheVariants as at_acquire
 use Rattle.op_commit.specs.declared.back.BackPlace.{BackPlace}
-use Rattle.op_commit.specs.declared.back.BackPlace.TheVariants.{Cell, Ended as BackEnded}
+use Rattle.op_commit.specs.declared.back.BackPlace.TheVariants as at_back
 use Rattle.op_commit.specs.declared.commit.CommitPlace.{CommitPlace}
-use Rattle.op_commit.specs.declared.commit.CommitPlace.TheVariants.{Check as AtCheck, Ended as CommitEnded, Mark as AtMark, Release as AtRelease, Store}
+use Rattle.op_commit.specs.declared.commit.CommitPlace.TheVariants as at_commit
 use Rattle.op_read.specs.Extend as extension
 use Rattle.op_read.specs.Read as read
 use Rattle.op_read.specs.declared.extend.ExtendPlace.{ExtendPlace}
-use Rattle.op_read.specs.declared.extend.ExtendPlace.TheVariants.{Clock, Ended as ExtendEnded, Note as AtNote}
+use Rattle.op_read.specs.declared.extend.ExtendPlace.TheVariants as at_extend
 use Rattle.op_read.specs.declared.read.ReadPlace.{ReadPlace}
-use Rattle.op_read.specs.declared.read.ReadPlace.TheVariants.{Ended as ReadEnded}
-use Rattle.stm_core.specs.Running.{HoldsAt, closing, standing_so}
+use Rattle.op_read.specs.declared.read.ReadPlace.TheVariants as at_read
+use Rattle.stm_core.specs.Running.{InvariantAt, closing, attempt_at}
 use Rattle.stm_core.specs.declared.running.Running.{Running}
 use Rattle.stm_core.specs.declared.running.State.{State}
-use Rattle.stm_core.specs.declared.running.State.TheVariants.{Announce as InAnnounce, Back, Begin as InBegin, Commit, Ended as InEnd, Extend as InExtend, Read, Ready as InReady, Stopped as InStop, Write}
+use Rattle.stm_core.specs.declared.running.State.TheVariants as in_state
 use Rattle.stm_model.specs.declared.cause.Cause.TheVariants.{ClockEnd}
 use Rattle.stm_model.specs.declared.ending.Ending.TheVariants.{Rolled}
 use Rattle.stm_model.specs.declared.note.Note.{Note}
 use Rattle.stm_model.specs.Accesses.{next_at}
-use Rattle.stm_model.specs.After.{at, check_on, extend_on, mark_on, release_on, roll_on, rolled, store_on}
-use Rattle.stm_model.specs.Attempt.{Attempt, Check, Close, Decide, Due, Extend, Fetch, Mark, Release, Renew, RollBack, Sample, Stage, StoreValues, Write as OneWrite}
+use Rattle.stm_model.specs.After.{at, validate_on, extend_on, mark_on, release_on, roll_on, rolled, store_on}
+use Rattle.stm_model.specs.Attempt.{Attempt, CommitNote, Close, Decide, Due, ExtendNote, ReadValue, Mark, Release, ExtendClock, RollBack, CommitClock, Stage, StoreValues, Write as OneWrite}
 
 abbrev pub with_rings : Attempt → List Due → List ℕ → Attempt
 with_rings t dues cells = record t { due = dues; rings = cells }
@@ -53,7 +53,7 @@ roll_on_within t (write ∷ behind) = at_stage t (RollBack write behind) refl
 
 mark_on_within : (t : Attempt) (writes : List OneWrite) → Within (λ t. mark_on t writes) t
 unfolding next_at
-mark_on_within t [] = at_stage t (Sample 0) refl
+mark_on_within t [] = at_stage t (CommitClock 0) refl
 mark_on_within t (write ∷ behind) = at_stage t (Mark write behind) refl
 
 release_on_within : (t : Attempt) (writes : List OneWrite) → Within (λ t. release_on t writes) t
@@ -72,56 +72,56 @@ unfolding next_at
 limit_within t lost clock true = roll_on_within (record t { prefix = clock; ending = Some (Rolled (ClockEnd clock) clock) }) t.now.writes
 limit_within t lost clock false = at_stage t (Decide lost clock) refl
 
-check_on_within : (t : Attempt) (lost clock : ℕ) (notes : List Note) → Within (λ t. check_on t lost clock notes) t
-unfolding check_on next_at
+check_on_within : (t : Attempt) (lost clock : ℕ) (notes : List Note) → Within (λ t. validate_on t lost clock notes) t
+unfolding validate_on next_at
 check_on_within t lost clock [] = limit_within t lost clock (nat_eq clock t.settings.clock)
-check_on_within t lost clock (note ∷ behind) = at_stage t (Check lost clock note behind) refl
+check_on_within t lost clock (note ∷ behind) = at_stage t (CommitNote lost clock note behind) refl
 
 extend_on_within : (t : Attempt) (cell left : ℕ) (first : Meta) (clock : ℕ) (notes : List Note) → Within (λ t. extend_on t cell left first clock notes) t
 unfolding next_at
-extend_on_within t cell left first clock [] = at_stage (record t { prefix = clock }) (Fetch cell left first) refl
-extend_on_within t cell left first clock (note ∷ behind) = at_stage t (Extend cell left first clock note behind) refl
+extend_on_within t cell left first clock [] = at_stage (record t { prefix = clock }) (ReadValue cell left first) refl
+extend_on_within t cell left first clock (note ∷ behind) = at_stage t (ExtendNote cell left first clock note behind) refl
 
 -- ---- operations under way
 
 read_within : (t : Attempt) (cell left : ℕ) (place : ReadPlace) → IsNone (read.ended_at place) → Within (λ t. read.reading_at t cell left place) t
 unfolding next_at
-read_within t cell left (ReadEnded end) going = absurd (cc going)
+read_within t cell left (at_read.Ended end) going = absurd (cc going)
 read_within t cell left _ going = at_stage t _ refl
 
 extension_within : (t : Attempt) (cell left : ℕ) (first : Meta) (place : ExtendPlace) → IsNone (extension.end_at place) → Within (λ t. extension.extending_at place cell left first t) t
 unfolding next_at
-extension_within t cell left first Clock going = at_stage t (Renew cell left first) refl
-extension_within t cell left first (AtNote clock index) going = extend_on_within t cell left first clock (drop index t.notes)
-extension_within t cell left first (ExtendEnded end) going = absurd (cc going)
+extension_within t cell left first at_extend.ExtendClock going = at_stage t (ExtendClock cell left first) refl
+extension_within t cell left first (at_extend.ExtendNote clock index) going = extend_on_within t cell left first clock (drop index t.notes)
+extension_within t cell left first (at_extend.Ended end) going = absurd (cc going)
 
 write_within : (op : AcquireOp) (value : ℕ) (t : Attempt) (place : AcquirePlace) → IsNone (first_write.end_at place) → Within (λ t. first_write.acquiring_at op value t place) t
 unfolding next_at
-write_within op value t (OwnEnded end) going = absurd (cc going)
+write_within op value t (at_acquire.Ended end) going = absurd (cc going)
 write_within op value t _ going = at_stage t _ refl
 
 commit_within : (writes : ℕ) (t : Attempt) (place : CommitPlace) → IsNone (commit.end_at place) → Within (λ t. commit.committing_at place writes t) t
 unfolding next_at
-commit_within writes t (AtMark index) going = mark_on_within (commit.in_preparation t) (drop index t.now.writes)
-commit_within writes t (AtCheck lost clock index) going = check_on_within (commit.in_preparation t) lost clock (drop (index - writes) t.notes)
-commit_within writes t (Store stamp index) going = store_on_within (commit.stamped t stamp) (drop index t.now.writes)
-commit_within writes t (AtRelease stamp index) going = release_on_within (commit.stamped t stamp) (drop index t.now.writes)
-commit_within writes t (CommitEnded end) going = absurd (cc going)
+commit_within writes t (at_commit.Mark index) going = mark_on_within (commit.in_preparation t) (drop index t.now.writes)
+commit_within writes t (at_commit.CommitNote lost clock index) going = check_on_within (commit.in_preparation t) lost clock (drop (index - writes) t.notes)
+commit_within writes t (at_commit.StoreValues stamp index) going = store_on_within (commit.stamped t stamp) (drop index t.now.writes)
+commit_within writes t (at_commit.Release stamp index) going = release_on_within (commit.stamped t stamp) (drop index t.now.writes)
+commit_within writes t (at_commit.Ended end) going = absurd (cc going)
 commit_within writes t _ going = ((refl, λ dues cells. refl), refl)
 
 back_within : (first : ℕ) (whole : Bool) (t : Attempt) (place : BackPlace) → whole ≡ true → IsNone (way_back.end_at place) →
     Within (λ t. way_back.backing_at place first whole t) t
-back_within first true t (Cell index) is going = roll_on_within t (drop index t.now.writes)
-back_within first false t (Cell index) is going = absurd (cc is)
-back_within first whole t (BackEnded end) is going = absurd (cc going)
+back_within first true t (at_back.Cell index) is going = roll_on_within t (drop index t.now.writes)
+back_within first false t (at_back.Cell index) is going = absurd (cc is)
+back_within first whole t (at_back.Ended end) is going = absurd (cc going)
 
 -- ---- where it stands
 
 -- It waits for no word: it waits to be asked, or is over.
 abbrev pub rests_at : State → Bool
-rests_at (InReady told) = true
-rests_at (InStop cause) = true
-rests_at (InEnd ending) = true
+rests_at (in_state.Ready told) = true
+rests_at (in_state.Stopped cause) = true
+rests_at (in_state.Ended ending) = true
 rests_at state = false
 
 -- The one has what the other has, but for its stage, phase, ending and prefix.
@@ -137,9 +137,9 @@ pub record Same (t u : Attempt) : Type 0 where
 
 -- An attempt that stands so is the same, stands so where other cells are due and rung for, and unless it rests makes an access.
 pub record Stands (t : Attempt) (state : State) : Type 0 where
-  pub same : Same t (standing_so t state)
-  pub also : (dues : List Due) (cells : List ℕ) → standing_so (with_rings t dues cells) state ≡ with_rings (standing_so t state) dues cells
-  pub acts : rests_at state ≡ false → IsSome (next_at (standing_so t state) (standing_so t state).stage)
+  pub same : Same t (attempt_at t state)
+  pub also : (dues : List Due) (cells : List ℕ) → attempt_at (with_rings t dues cells) state ≡ with_rings (attempt_at t state) dues cells
+  pub acts : rests_at state ≡ false → IsSome (next_at (attempt_at t state) (attempt_at t state).stage)
 
 same : (t u : Attempt) → u ≡ during t u → Same t u
 same t u is = record {
@@ -153,21 +153,21 @@ same t u is = record {
   rings = ap (λ (x : Attempt). x.rings) is;
 }
 
-stands_by : (t : Attempt) (state : State) → Keeps (λ t. standing_so t state) t → (rests_at state ≡ false → IsSome (next_at (standing_so t state) (standing_so t state).stage)) → Stands t state
-stands_by t state keeps acts = record { same = same t (standing_so t state) keeps.0; also = keeps.1; acts = acts }
+stands_by : (t : Attempt) (state : State) → Keeps (λ t. attempt_at t state) t → (rests_at state ≡ false → IsSome (next_at (attempt_at t state) (attempt_at t state).stage)) → Stands t state
+stands_by t state keeps acts = record { same = same t (attempt_at t state) keeps.0; also = keeps.1; acts = acts }
 
-acting : (t : Attempt) (state : State) → Within (λ t. standing_so t state) t → Stands t state
+acting : (t : Attempt) (state : State) → Within (λ t. attempt_at t state) t → Stands t state
 acting t state within = stands_by t state within.0 (λ going. within.1)
 
-pub stands : (r : Running) (t : Attempt) (state : State) → HoldsAt r state → Stands t state
-unfolding HoldsAt standing_so next_at
-stands r t InAnnounce holds = acting t InAnnounce ((refl, λ dues cells. refl), refl)
-stands r t InBegin holds = acting t InBegin ((refl, λ dues cells. refl), refl)
-stands r t (InReady told) holds = stands_by t (InReady told) (refl, λ dues cells. refl) (λ going. absurd (cc going))
-stands r t (InStop cause) holds = stands_by t (InStop cause) (refl, λ dues cells. refl) (λ going. absurd (cc going))
-stands r t (Read op) holds = acting t (Read op) (read_within t op.addr.0 op.left op.place holds.going)
-stands r t (InExtend reading first op) holds = acting t (InExtend reading first op) (extension_within t reading.addr.0 reading.left first op.place holds.going)
-stands r t (Write op value) holds = acting t (Write op value) (write_within op value t op.place holds.going)
-stands r t (Commit op) holds = acting t (Commit op) (commit_within op.writes t op.place holds.going)
-stands r t (Back op ending prepared) holds = acting t (Back op ending prepared) (back_within op.first op.whole (closing t ending prepared) op.place holds.whole holds.going)
-stands r t (InEnd ending) holds = stands_by t (InEnd ending) (refl, λ dues cells. refl) (λ going. absurd (cc going))
+pub stands : (r : Running) (t : Attempt) (state : State) → InvariantAt r state → Stands t state
+unfolding InvariantAt attempt_at next_at
+stands r t in_state.Announce holds = acting t in_state.Announce ((refl, λ dues cells. refl), refl)
+stands r t in_state.Begin holds = acting t in_state.Begin ((refl, λ dues cells. refl), refl)
+stands r t (in_state.Ready told) holds = stands_by t (in_state.Ready told) (refl, λ dues cells. refl) (λ going. absurd (cc going))
+stands r t (in_state.Stopped cause) holds = stands_by t (in_state.Stopped cause) (refl, λ dues cells. refl) (λ going. absurd (cc going))
+stands r t (in_state.Read op) holds = acting t (in_state.Read op) (read_within t op.addr.0 op.left op.place holds.going)
+stands r t (in_state.Extend reading first op) holds = acting t (in_state.Extend reading first op) (extension_within t reading.addr.0 reading.left first op.place holds.going)
+stands r t (in_state.Write op value) holds = acting t (in_state.Write op value) (write_within op value t op.place holds.going)
+stands r t (in_state.Commit op) holds = acting t (in_state.Commit op) (commit_within op.writes t op.place holds.going)
+stands r t (in_state.Back op ending prepared) holds = acting t (in_state.Back op ending prepared) (back_within op.first op.whole (closing t ending prepared) op.place holds.whole holds.going)
+stands r t (in_state.Ended ending) holds = stands_by t (in_state.Ended ending) (refl, λ dues cells. refl) (λ going. absurd (cc going))

@@ -4,8 +4,8 @@ use Rattle.meta_word.specs.Policy.{looks}
 use Rattle.meta_word.specs.declared.meta.TheConstants.{MAX_VERSION}
 use Rattle.meta_word.specs.declared.status.Phase.TheVariants.{Idle}
 use Rattle.stm_core.specs.declared.next.Next.{Next}
-use Rattle.stm_core.specs.declared.next.Next.TheVariants.{Access as ToAccess, Before, Decide, Reply as ToReply, Ring as ToRing, Run as ToRun}
-use Rattle.stm_core.specs.declared.next.Reply.TheVariants.{Ended as IsOver, Ready as IsReady, Stopped as IsStopped, Value}
+use Rattle.stm_core.specs.declared.next.Next.TheVariants as coming
+use Rattle.stm_core.specs.declared.next.Reply.TheVariants as reply
 use Rattle.stm_model.specs.declared.access.Access.{Access}
 use Rattle.stm_model.specs.declared.access.Access.TheVariants.{Exchange, Load}
 use Rattle.stm_model.specs.declared.access.Ask.{Ask}
@@ -13,9 +13,9 @@ use Rattle.stm_model.specs.declared.access.Ask.TheVariants.{Abandon, Finish, Get
 use Rattle.stm_model.specs.declared.access.Word.TheVariants.{Clock}
 use Rattle.stm_model.specs.declared.ending.Ending.{Ending}
 use Rattle.stm_model.specs.declared.settings.Settings.{Settings}
-use Rattle.stm_model.specs.Accesses.{Act, LoadClock, TakeClock, addr_of, next_at, packed}
+use Rattle.stm_model.specs.Accesses.{Act, LoadClock, ExchangeClock, addr_of, next_at, packed}
 use Rattle.stm_model.specs.Attempt.{Attempt, Due, Ended, Late, Ready, Ring, Run, Stage, Stopped, cause_at, holds, is_in_flight}
-use Rattle.stm_model.specs.Moves.{Lacks, MayLack, moved}
+use Rattle.stm_model.specs.Moves.{OutOfMemory, MayRunOut, moved}
 
 -- the attempt, how many accesses may follow before it replies, and how many first reads and first writes that aren't under way take no memory
 pub record Machine : Type 0 where
@@ -28,8 +28,8 @@ pub record Machine : Type 0 where
 
 -- an access, and the exchange of the clock by a name of its own
 abbrev pub named : Access → Next
-named (Exchange Clock old new) = Decide old
-named access = ToAccess access
+named (Exchange Clock old new) = coming.Decide old
+named access = coming.Access access
 
 -- the access that is made comes next
 abbrev pub made : Option Access → Option Next
@@ -38,22 +38,22 @@ made (Some access) = Some (named access)
 
 abbrev pub over : Option Ending → Option Next
 over None = None
-over (Some ending) = Some (ToReply (IsOver ending))
+over (Some ending) = Some (coming.Reply (reply.Ended ending))
 
 -- what an attempt does where it stands: it replies, or it makes an access
 unfoldable pub standing : Attempt → Stage → Option Next
-standing t (Ready None) = Some (ToReply IsReady)
-standing t (Ready (Some value)) = Some (ToReply (Value value))
-standing t (Late token) = Some (Before token)
-standing t (Stopped cause) = Some (ToReply (IsStopped cause))
+standing t (Ready None) = Some (coming.Reply reply.Ready)
+standing t (Ready (Some value)) = Some (coming.Reply (reply.Value value))
+standing t (Late token) = Some (coming.Before token)
+standing t (Stopped cause) = Some (coming.Reply (reply.Stopped cause))
 standing t Ended = over t.ending
 standing t stage = made (packed (next_at t stage))
 
 -- What is due comes first.
 unfoldable pub after_due : List Due → Option Next → Option Next
 after_due [] next = next
-after_due (Run phase token ∷ dues) next = Some (ToRun phase token)
-after_due (Ring cell ∷ dues) next = Some (ToRing (addr_of cell))
+after_due (Run phase token ∷ dues) next = Some (coming.Run phase token)
+after_due (Ring cell ∷ dues) next = Some (coming.Ring (addr_of cell))
 
 -- what an attempt does next
 abbrev pub next_of : Attempt → Option Next
@@ -77,35 +77,35 @@ IsBuilt ask = ⊥
 -- What the clock shows is within the attempt's limit.
 unfoldable pub ClockFits : Attempt → Option Act → ℕ → Type 0
 ClockFits t (Some LoadClock) answer = answer ≤ t.settings.clock
-ClockFits t (Some (TakeClock old)) answer = answer ≤ t.settings.clock
+ClockFits t (Some (ExchangeClock old)) answer = answer ≤ t.settings.clock
 ClockFits t act answer = Unit {0}
 
 -- ---- what it says of the calls that may follow
 
 -- It makes an access, so it may be given an answer.
 unfoldable pub MakesAccess : Next → Type 0
-MakesAccess (ToAccess access) = Unit {0}
-MakesAccess (Decide old) = Unit {0}
+MakesAccess (coming.Access access) = Unit {0}
+MakesAccess (coming.Decide old) = Unit {0}
 MakesAccess next = ⊥
 
 -- the clock is what it finds
 unfoldable pub FindsClock : Next → Type 0
-FindsClock (ToAccess (Load Clock)) = Unit {0}
-FindsClock (Decide old) = Unit {0}
+FindsClock (coming.Access (Load Clock)) = Unit {0}
+FindsClock (coming.Decide old) = Unit {0}
 FindsClock next = ⊥
 
 -- Something is due, so it may be told that this was done.
 unfoldable pub IsDue : Next → Type 0
-IsDue (ToRun phase token) = Unit {0}
-IsDue (ToRing addr) = Unit {0}
+IsDue (coming.Run phase token) = Unit {0}
+IsDue (coming.Ring addr) = Unit {0}
 IsDue next = ⊥
 
 -- It may be asked.
 unfoldable pub IsToBeAsked : Next → Type 0
-IsToBeAsked (Before token) = Unit {0}
-IsToBeAsked (ToReply IsReady) = Unit {0}
-IsToBeAsked (ToReply (Value value)) = Unit {0}
-IsToBeAsked (ToReply (IsStopped cause)) = Unit {0}
+IsToBeAsked (coming.Before token) = Unit {0}
+IsToBeAsked (coming.Reply reply.Ready) = Unit {0}
+IsToBeAsked (coming.Reply (reply.Value value)) = Unit {0}
+IsToBeAsked (coming.Reply (reply.Stopped cause)) = Unit {0}
 IsToBeAsked next = ⊥
 
 -- ---- what doesn't change
@@ -120,9 +120,9 @@ pub record IsSameAttempt (before after : Attempt) : Type 0 where
 
 -- The ask is refused for want of memory, where it wants some.
 pub record IsRefused (before : Attempt) (ask : Ask) (after : Attempt) : Type 0 where
-  pub wants : MayLack before ask
+  pub wants : MayRunOut before ask
   pub going : cause_at before.stage ≡ None
-  pub stops : after ≡ moved before (Lacks ask)
+  pub stops : after ≡ moved before (OutOfMemory ask)
 
 -- ---- how it ends
 

@@ -21,7 +21,7 @@ use Rattle.stm_core.specs.Machine.{Machine, SettingsFit}
 use Rattle.stm_core.specs.Rung.{cells_in}
 use Rattle.stm_core.specs.declared.running.Running.{Running}
 use Rattle.stm_core.specs.declared.running.State.{State}
-use Rattle.stm_core.specs.declared.running.State.TheVariants.{Announce as AtAnnounce, Back, Begin as AtBegin, Commit, Ended as AtEnd, Extend, Read, Ready as AtReady, Stopped as AtStop, Write}
+use Rattle.stm_core.specs.declared.running.State.TheVariants as in_state
 use Rattle.stm_model.specs.declared.ending.Ending.{Ending}
 use Rattle.stm_model.specs.declared.settings.Settings.{Settings}
 use Rattle.stm_model.specs.After.{at, note_of}
@@ -48,31 +48,31 @@ abbrev pub closing : Attempt → Ending → (prepared : Bool) → Attempt
 closing t ending prepared = record t { ending = Some ending; phase = if prepared then Preparing else Active }
 
 -- the attempt that stands so
-unfoldable pub standing_so : Attempt → State → Attempt
-standing_so t AtAnnounce = at (record t { phase = Idle }) Announce
-standing_so t AtBegin = at t Begin
-standing_so t (AtReady told) = at t (Ready told)
-standing_so t (AtStop cause) = at t (Stopped cause)
-standing_so t (Read op) = read.reading op t
-standing_so t (Extend reading first op) = extension.extending op reading.addr.0 reading.left first t
-standing_so t (Write op value) = first_write.acquiring op value t
-standing_so t (Commit op) = commit.committing op t
-standing_so t (Back op ending prepared) = way_back.backing op (closing t ending prepared)
-standing_so t (AtEnd ending) = at (record t { phase = Idle; ending = Some ending }) Ended
+unfoldable pub attempt_at : Attempt → State → Attempt
+attempt_at t in_state.Announce = at (record t { phase = Idle }) Announce
+attempt_at t in_state.Begin = at t Begin
+attempt_at t (in_state.Ready told) = at t (Ready told)
+attempt_at t (in_state.Stopped cause) = at t (Stopped cause)
+attempt_at t (in_state.Read op) = read.reading op t
+attempt_at t (in_state.Extend reading first op) = extension.extending op reading.addr.0 reading.left first t
+attempt_at t (in_state.Write op value) = first_write.acquiring op value t
+attempt_at t (in_state.Commit op) = commit.committing op t
+attempt_at t (in_state.Back op ending prepared) = way_back.backing op (closing t ending prepared)
+attempt_at t (in_state.Ended ending) = at (record t { phase = Idle; ending = Some ending }) Ended
 
 abbrev pub shown : Running → Attempt
-shown r = standing_so (base r) r.state
+shown r = attempt_at (base r) r.state
 
 -- ---- how many accesses may follow before it replies
 
 unfoldable pub left_at : State → (reads writes : ℕ) → ℕ
-left_at AtAnnounce reads writes = 2
-left_at AtBegin reads writes = 1
-left_at (Read op) reads writes = read.accesses_left op reads
-left_at (Extend reading first op) reads writes = read.accesses_left reading reads - (1 + reads) + extension.looks_left op reads
-left_at (Write op value) reads writes = first_write.accesses_left op
-left_at (Commit op) reads writes = commit.accesses_left op reads + (writes + 1)
-left_at (Back op ending prepared) reads writes = way_back.accesses_left op writes
+left_at in_state.Announce reads writes = 2
+left_at in_state.Begin reads writes = 1
+left_at (in_state.Read op) reads writes = read.accesses_left op reads
+left_at (in_state.Extend reading first op) reads writes = read.accesses_left reading reads - (1 + reads) + extension.looks_left op reads
+left_at (in_state.Write op value) reads writes = first_write.accesses_left op
+left_at (in_state.Commit op) reads writes = commit.accesses_left op reads + (writes + 1)
+left_at (in_state.Back op ending prepared) reads writes = way_back.accesses_left op writes
 left_at state reads writes = 0
 
 abbrev pub left_in : Running → ℕ
@@ -82,12 +82,12 @@ left_in r = left_at r.state (length r.footprint.reads.notes) (length r.footprint
 
 -- a first read, and a first write, that is under way has its room
 unfoldable pub reads_under_way : State → ℕ
-reads_under_way (Read op) = 1
-reads_under_way (Extend reading first op) = 1
+reads_under_way (in_state.Read op) = 1
+reads_under_way (in_state.Extend reading first op) = 1
 reads_under_way state = 0
 
 unfoldable pub writes_under_way : State → ℕ
-writes_under_way (Write op value) = 1
+writes_under_way (in_state.Write op value) = 1
 writes_under_way state = 0
 
 -- ---- what its callers see
@@ -139,13 +139,13 @@ pub record IsGoingBack (r : Running) (op : BackOp) : Type 0 where
   pub whole : op.whole ≡ true
 
 -- what holds where it stands so
-unfoldable pub HoldsAt : Running → State → Type 0
-HoldsAt r (Read op) = IsReading r op
-HoldsAt r (Extend reading first op) = IsExtending r reading first op
-HoldsAt r (Write op value) = IsWriting r op
-HoldsAt r (Commit op) = IsCommitting r op
-HoldsAt r (Back op ending prepared) = IsGoingBack r op
-HoldsAt r state = Unit {0}
+unfoldable pub InvariantAt : Running → State → Type 0
+InvariantAt r (in_state.Read op) = IsReading r op
+InvariantAt r (in_state.Extend reading first op) = IsExtending r reading first op
+InvariantAt r (in_state.Write op value) = IsWriting r op
+InvariantAt r (in_state.Commit op) = IsCommitting r op
+InvariantAt r (in_state.Back op ending prepared) = IsGoingBack r op
+InvariantAt r state = Unit {0}
 
 -- Its numbers have room in their words.
 pub record NumbersFit (number serial : ℕ) (settings : Settings) : Type 0 where
@@ -162,4 +162,4 @@ pub record KeepsNumbers (before after : Running) : Type 0 where
 -- Its numbers fit, and what it does is made for it.
 pub record IsSound (r : Running) : Type 0 where
   pub fits : NumbersFit r.own r.serial r.settings
-  pub holds : HoldsAt r r.state
+  pub holds : InvariantAt r r.state

@@ -3,13 +3,13 @@ ghost use Rattle.std.specs.Prelude.{◌≡◌, ◌<◌, ◌≤◌, ◌+◌, ◌-
 ghost use Rattle.op_commit.specs.Acquire.{version_in, wrote};
 ghost use Rattle.stm_core.specs.Machine.{HasSpare, IsBuilt, IsRefused, accesses_asked, reads_asked, writes_asked};
 ghost use Rattle.stm_core.specs.Running.{IsSound, NumbersFit, base, left_in, machine_of, shown};
-ghost use Rattle.stm_core.specs.declared.running.State.TheVariants.{Ready as AtReady, Stopped as AtStop};
+ghost use Rattle.stm_core.specs.declared.running.State.TheVariants as in_state;
 ghost use Rattle.stm_core.specs.Running.{KeepsNumbers};
 ghost use Rattle.meta_word.specs.Policy.{looks};
 ghost use Rattle.stm_model.specs.After.{at, note_of, rolled, stopped};
-ghost use Rattle.stm_model.specs.Attempt.{Acquire, FirstLook, Ready};
+ghost use Rattle.stm_model.specs.Attempt.{AcquireMeta, ReadMeta, Ready};
 ghost use Rattle.stm_model.specs.Heap.{writes_to};
-ghost use Rattle.stm_model.specs.Moves.{AwaitsAsk, MayLack, Takes, asked_going, asked_stopped, moved, read_noted};
+ghost use Rattle.stm_model.specs.Moves.{AwaitsAsk, MayRunOut, Takes, asked_going, asked_stopped, moved, read_noted};
 ghost use Rattle.stm_model.specs.declared.access.Ask.TheVariants.{Finish, Get, Set};
 ghost use Rattle.stm_model.specs.declared.cause.Addr.{Addr};
 ghost use Rattle.stm_model.specs.declared.cause.Cause.TheVariants.{Memory};
@@ -49,7 +49,7 @@ impl Running {
         requires built { IsBuilt ask }
         ensures numbers { KeepsNumbers self.old self.new }
         ensures moves { (told : Option ℕ) → (let t = at (base self.old) (Ready told) in
-            (shown self.new ≡ asked_going t ask) ⊎ (MayLack t ask × (shown self.new ≡ stopped t Memory))) }
+            (shown self.new ≡ asked_going t ask) ⊎ (MayRunOut t ask × (shown self.new ≡ stopped t Memory))) }
         ensures read { (addr : Addr) (told : Option ℕ) → ask ≡ Get addr → 0 < self.old.footprint.reads.spare → shown self.new ≡ asked_going (at (base self.old) (Ready told)) ask }
         ensures written { (addr : Addr) (value : ℕ) (told : Option ℕ) → ask ≡ Set addr value → IsFalse (writes_to self.old.footprint.writes.writes addr.0) → 0 < self.old.footprint.writes.spare →
             shown self.new ≡ asked_going (at (base self.old) (Ready told)) ask }
@@ -70,7 +70,7 @@ impl Running {
     #[tactic(auto, unfolding(stm_model::specs::Moves::asked_stopped, crate::specs::Machine::accesses_asked, crate::specs::Machine::reads_asked, crate::specs::Machine::writes_asked, crate::specs::Running::left_at))]
     fn ask_stopped(&mut self, cause: Cause, ask: Ask)
         requires sound { IsSound self.old }
-        requires state { self.old.state ≡ AtStop cause }
+        requires state { self.old.state ≡ in_state.Stopped cause }
         requires built { IsBuilt ask }
         ensures numbers { KeepsNumbers self.old self.new }
         ensures moves { shown self.new ≡ asked_stopped (shown self.old) cause ask }
@@ -87,13 +87,13 @@ impl Running {
     }
 
     // Reads a cell: its buffered value before all others.
-    #[tactic(auto, unfolding(crate::specs::Running::standing_so, crate::specs::Running::left_at, crate::specs::Running::HoldsAt, crate::specs::Running::reads_under_way, crate::specs::Running::writes_under_way, stm_model::specs::Moves::asked_going, stm_model::specs::Moves::MayLack))]
+    #[tactic(auto, unfolding(crate::specs::Running::attempt_at, crate::specs::Running::left_at, crate::specs::Running::InvariantAt, crate::specs::Running::reads_under_way, crate::specs::Running::writes_under_way, stm_model::specs::Moves::asked_going, stm_model::specs::Moves::MayRunOut))]
     fn get(&mut self, addr: Addr)
         requires fits { NumbersFit self.old.own self.old.serial self.old.settings }
         requires nothing_due { self.old.due ≡ None }
         ensures numbers { KeepsNumbers self.old self.new }
         ensures moves { (told : Option ℕ) → (let t = at (base self.old) (Ready told) in
-            (shown self.new ≡ asked_going t (Get addr)) ⊎ (MayLack t (Get addr) × (shown self.new ≡ stopped t Memory))) }
+            (shown self.new ≡ asked_going t (Get addr)) ⊎ (MayRunOut t (Get addr) × (shown self.new ≡ stopped t Memory))) }
         ensures takes { (told : Option ℕ) → 0 < self.old.footprint.reads.spare → shown self.new ≡ asked_going (at (base self.old) (Ready told)) (Get addr) }
         ensures sound { IsSound self.new }
         ensures room { HasSpare (self.old.footprint.reads.spare - 1) self.old.footprint.writes.spare (machine_of self.new) }
@@ -106,7 +106,7 @@ impl Running {
     }
 
     // Reads a cell that isn't written: its noted value, else it is looked at.
-    #[tactic(auto, unfolding(crate::specs::Running::standing_so, crate::specs::Running::left_at, crate::specs::Running::HoldsAt, crate::specs::Running::reads_under_way, crate::specs::Running::writes_under_way))]
+    #[tactic(auto, unfolding(crate::specs::Running::attempt_at, crate::specs::Running::left_at, crate::specs::Running::InvariantAt, crate::specs::Running::reads_under_way, crate::specs::Running::writes_under_way))]
     fn get_unwritten(&mut self, addr: Addr)
         requires fits { NumbersFit self.old.own self.old.serial self.old.settings }
         requires nothing_due { self.old.due ≡ None }
@@ -126,14 +126,14 @@ impl Running {
     }
 
     // Begins to read a cell, once its note has room.
-    #[tactic(auto, unfolding(crate::specs::Running::standing_so, crate::specs::Running::left_at, crate::specs::Running::HoldsAt, crate::specs::Running::reads_under_way, crate::specs::Running::writes_under_way))]
+    #[tactic(auto, unfolding(crate::specs::Running::attempt_at, crate::specs::Running::left_at, crate::specs::Running::InvariantAt, crate::specs::Running::reads_under_way, crate::specs::Running::writes_under_way))]
     fn look_at(&mut self, addr: Addr)
         requires fits { NumbersFit self.old.own self.old.serial self.old.settings }
         requires nothing_due { self.old.due ≡ None }
         requires unnoted { note_of self.old.footprint.reads.notes addr.0 ≡ None }
         ensures numbers { KeepsNumbers self.old self.new }
-        ensures moves { (shown self.new ≡ at (base self.old) (FirstLook addr.0 (looks self.old.settings.policy))) ⊎ (shown self.new ≡ stopped (base self.old) Memory) }
-        ensures takes { 0 < self.old.footprint.reads.spare → shown self.new ≡ at (base self.old) (FirstLook addr.0 (looks self.old.settings.policy)) }
+        ensures moves { (shown self.new ≡ at (base self.old) (ReadMeta addr.0 (looks self.old.settings.policy))) ⊎ (shown self.new ≡ stopped (base self.old) Memory) }
+        ensures takes { 0 < self.old.footprint.reads.spare → shown self.new ≡ at (base self.old) (ReadMeta addr.0 (looks self.old.settings.policy)) }
         ensures sound { IsSound self.new }
         ensures room { HasSpare (self.old.footprint.reads.spare - 1) self.old.footprint.writes.spare (machine_of self.new) }
         ensures bound { left_in self.new ≤ (looks self.old.settings.policy + 1) * (4 + length self.old.footprint.reads.notes) }
@@ -169,14 +169,14 @@ impl Running {
     }
 
     // Begins to write a cell for the first time, once its write has room.
-    #[tactic(auto, unfolding(crate::specs::Running::standing_so, crate::specs::Running::left_at, crate::specs::Running::HoldsAt, crate::specs::Running::reads_under_way, crate::specs::Running::writes_under_way))]
+    #[tactic(auto, unfolding(crate::specs::Running::attempt_at, crate::specs::Running::left_at, crate::specs::Running::InvariantAt, crate::specs::Running::reads_under_way, crate::specs::Running::writes_under_way))]
     fn first_write(&mut self, addr: Addr, value: u64)
         requires fits { NumbersFit self.old.own self.old.serial self.old.settings }
         requires nothing_due { self.old.due ≡ None }
         requires unwritten { IsFalse (writes_to self.old.footprint.writes.writes addr.0) }
         ensures numbers { KeepsNumbers self.old self.new }
-        ensures moves { (shown self.new ≡ at (base self.old) (Acquire addr.0 value (looks self.old.settings.policy) false)) ⊎ (shown self.new ≡ stopped (base self.old) Memory) }
-        ensures takes { 0 < self.old.footprint.writes.spare → shown self.new ≡ at (base self.old) (Acquire addr.0 value (looks self.old.settings.policy) false) }
+        ensures moves { (shown self.new ≡ at (base self.old) (AcquireMeta addr.0 value (looks self.old.settings.policy) false)) ⊎ (shown self.new ≡ stopped (base self.old) Memory) }
+        ensures takes { 0 < self.old.footprint.writes.spare → shown self.new ≡ at (base self.old) (AcquireMeta addr.0 value (looks self.old.settings.policy) false) }
         ensures sound { IsSound self.new }
         ensures room { HasSpare self.old.footprint.reads.spare (self.old.footprint.writes.spare - 1) (machine_of self.new) }
         ensures bound { left_in self.new ≤ (looks self.old.settings.policy + 1) * 4 }
@@ -202,7 +202,7 @@ impl Running {
     }
 
     // Writes a cell that is written already.
-    #[tactic(auto, unfolding(crate::specs::Running::standing_so, crate::specs::Running::left_at, crate::specs::Running::HoldsAt, crate::specs::Running::reads_under_way, crate::specs::Running::writes_under_way))]
+    #[tactic(auto, unfolding(crate::specs::Running::attempt_at, crate::specs::Running::left_at, crate::specs::Running::InvariantAt, crate::specs::Running::reads_under_way, crate::specs::Running::writes_under_way))]
     fn rewrite(&mut self, addr: Addr, value: u64)
         requires fits { NumbersFit self.old.own self.old.serial self.old.settings }
         requires written { IsTrue (writes_to self.old.footprint.writes.writes addr.0) }
@@ -219,7 +219,7 @@ impl Running {
     }
 
     // Ends the body: what has written something is committed, and else it ends as a reader.
-    #[tactic(auto, unfolding(crate::specs::Machine::accesses_asked, crate::specs::Running::standing_so, crate::specs::Running::left_at, crate::specs::Running::HoldsAt, crate::specs::Running::reads_under_way, crate::specs::Running::writes_under_way))]
+    #[tactic(auto, unfolding(crate::specs::Machine::accesses_asked, crate::specs::Running::attempt_at, crate::specs::Running::left_at, crate::specs::Running::InvariantAt, crate::specs::Running::reads_under_way, crate::specs::Running::writes_under_way))]
     fn finish(&mut self)
         requires fits { NumbersFit self.old.own self.old.serial self.old.settings }
         requires nothing_due { self.old.due ≡ None }
@@ -249,7 +249,7 @@ impl Running {
     }
 
     // Rolls it back with this cause.
-    #[tactic(auto, unfolding(crate::specs::Running::standing_so, crate::specs::Running::left_at, crate::specs::Running::HoldsAt, crate::specs::Running::reads_under_way, crate::specs::Running::writes_under_way))]
+    #[tactic(auto, unfolding(crate::specs::Running::attempt_at, crate::specs::Running::left_at, crate::specs::Running::InvariantAt, crate::specs::Running::reads_under_way, crate::specs::Running::writes_under_way))]
     fn roll_back(&mut self, cause: Cause)
         requires { NumbersFit self.old.own self.old.serial self.old.settings }
         ensures numbers { KeepsNumbers self.old self.new }

@@ -3,8 +3,8 @@ ghost use Rattle.std.specs.Prelude.{◌≡◌, ◌<◌, ◌≤◌, ◌-◌, ◌^
 ghost use Rattle.meta_word.specs.declared.meta.TheConstants.{MAX_OWNER};
 ghost use Rattle.meta_word.specs.declared.status.TheConstants.{MAX_SERIAL};
 ghost use Rattle.stm_core.specs.Machine.{ClockFits, FindsClock, HasSpare, IsAtRest, IsBuilt, IsDue, IsRefused, IsSameAttempt, IsToBeAsked, MakesAccess, SettingsFit, accesses_asked, next_of, reads_asked, writes_asked};
-ghost use Rattle.stm_core.specs.declared.next.Next.TheVariants.{Reply as ToReply};
-ghost use Rattle.stm_core.specs.declared.next.Reply.TheVariants.{Ended as IsOver};
+ghost use Rattle.stm_core.specs.declared.next.Next.TheVariants as coming;
+ghost use Rattle.stm_core.specs.declared.next.Reply.TheVariants as reply;
 ghost use Rattle.stm_model.specs.Accesses.{next};
 ghost use Rattle.stm_model.specs.After.{after_word};
 ghost use Rattle.stm_model.specs.Attempt.{Announce, Ended, Stopped, no_attempt};
@@ -95,7 +95,7 @@ impl Attempt {
         ensures due { IsDue result → 0 < length self.now.attempt.due }
         ensures waits { IsToBeAsked result → AwaitsAsk self.now.attempt }
         ensures finish { IsToBeAsked result → MayAsk (2 ^ 32) self.now.attempt Finish }
-        ensures over { (ending : Ending) → result ≡ ToReply (IsOver ending) → IsAtRest self.now.attempt ending }
+        ensures over { (ending : Ending) → result ≡ coming.Reply (reply.Ended ending) → IsAtRest self.now.attempt ending }
     {
         self.running.next()
     }

@@ -15,16 +15,15 @@ ghost use Rattle.op_read.specs.Read.{accesses_left as left_to_read};
 ghost use Rattle.op_read.specs.declared.read.ReadEnd.TheVariants.{NeedExtension};
 ghost use Rattle.stm_core.specs.Machine.{ClockFits, HasSpare, named, next_of};
 ghost use Rattle.stm_core.specs.Running.{HasRoomFor, IsCommitting, IsExtending, IsGoingBack, IsReading, IsSound, IsWriting, NumbersFit, base, closing, left_at, left_in, machine_of, reads_under_way, shown, writes_under_way};
-ghost use Rattle.stm_core.specs.declared.running.State.TheVariants.{Extend as AtExtend};
+ghost use Rattle.stm_core.specs.declared.running.State.TheVariants as in_state;
 ghost use Rattle.stm_core.specs.Running.{KeepsNumbers};
 ghost use Rattle.stm_model.specs.Accesses.{StoreStatus, access_of, active, next};
 ghost use Rattle.stm_model.specs.After.{after_word, answer_with, at, roll_on, rolled};
-ghost use Rattle.stm_model.specs.Attempt.{Fetch};
+ghost use Rattle.stm_model.specs.Attempt.{ReadValue};
 ghost use Rattle.stm_model.specs.Heap.{writes_to};
-ghost use Rattle.stm_core.specs.declared.next.Next.TheVariants.{Reply as ToReply};
+ghost use Rattle.stm_core.specs.declared.next.Next.TheVariants as coming;
 ghost use Rattle.stm_core.specs.declared.next.Reply.{Reply as ReplyOf};
-ghost use Rattle.stm_core.specs.declared.next.Reply.TheVariants.{Ended as IsOver, Ready as IsReady};
-ghost use Rattle.stm_core.specs.declared.running.State.TheVariants.{Ended as AtEnd};
+ghost use Rattle.stm_core.specs.declared.next.Reply.TheVariants as reply;
 ghost use Rattle.stm_model.specs.Attempt.{Announce, no_attempt};
 ghost use Rattle.stm_model.specs.Moves.{Does, moved};
 ghost use Rattle.stm_model.specs.declared.ending.Ending.{Ending as EndingOf};
@@ -91,7 +90,7 @@ pub struct Running {
 
 impl Running {
     /// An attempt before its first access.
-    #[tactic(auto, unfolding(crate::specs::Running::standing_so, crate::specs::Running::HoldsAt, crate::specs::Running::reads_under_way, crate::specs::Running::writes_under_way, crate::specs::Running::left_at, crate::specs::Rung::cells_in))]
+    #[tactic(auto, unfolding(crate::specs::Running::attempt_at, crate::specs::Running::InvariantAt, crate::specs::Running::reads_under_way, crate::specs::Running::writes_under_way, crate::specs::Running::left_at, crate::specs::Rung::cells_in))]
     pub fn new(alloc: Global, own: u16, serial: u64, settings: Settings) -> Running
         requires { NumbersFit own serial settings }
         ensures shown { shown result ≡ record (no_attempt own settings) { serial = serial; stage = Announce } }
@@ -170,11 +169,11 @@ impl Running {
     }
 
     /// What it does next.
-    #[tactic(auto, using(crate::proofs::Goes::goes), unfolding(crate::specs::Running::standing_so, crate::specs::Running::HoldsAt, crate::specs::Machine::standing, crate::specs::Machine::after_due, stm_model::specs::Accesses::next_at, stm_model::specs::Accesses::access_of))]
+    #[tactic(auto, using(crate::proofs::Goes::goes), unfolding(crate::specs::Running::attempt_at, crate::specs::Running::InvariantAt, crate::specs::Machine::standing, crate::specs::Machine::after_due, stm_model::specs::Accesses::next_at, stm_model::specs::Accesses::access_of))]
     pub fn next(&self) -> Next
         requires { IsSound self.now }
         ensures next { next_of (shown self.now) ≡ Some result }
-        ensures over { (ending : EndingOf) → result ≡ ToReply (IsOver ending) → self.now.state ≡ AtEnd ending }
+        ensures over { (ending : EndingOf) → result ≡ coming.Reply (reply.Ended ending) → self.now.state ≡ in_state.Ended ending }
     {
         if let Some(addr) = self.due {
             return Next::Ring(addr);
@@ -219,7 +218,7 @@ impl Running {
     }
 
     /// Takes the word that its access found.
-    #[tactic(auto, unfolding(crate::specs::Running::standing_so, crate::specs::Running::HoldsAt, crate::specs::Running::reads_under_way, crate::specs::Running::writes_under_way, crate::specs::Running::left_at, stm_model::specs::Accesses::next_at, stm_model::specs::Accesses::answer_of, stm_model::specs::After::after_at, crate::specs::Machine::ClockFits))]
+    #[tactic(auto, unfolding(crate::specs::Running::attempt_at, crate::specs::Running::InvariantAt, crate::specs::Running::reads_under_way, crate::specs::Running::writes_under_way, crate::specs::Running::left_at, stm_model::specs::Accesses::next_at, stm_model::specs::Accesses::answer_of, stm_model::specs::After::after_at, crate::specs::Machine::ClockFits))]
     pub fn take(&mut self, answer: u64)
         requires sound { IsSound self.old }
         requires going { IsSome (next (shown self.old)) }
@@ -250,7 +249,7 @@ impl Running {
     }
 
     // A read takes its answer.
-    #[tactic(auto, using(crate::proofs::Ends::read_over), unfolding(crate::specs::Running::standing_so, crate::specs::Running::HoldsAt, crate::specs::Running::reads_under_way, crate::specs::Running::writes_under_way, crate::specs::Running::left_at))]
+    #[tactic(auto, using(crate::proofs::Ends::read_over), unfolding(crate::specs::Running::attempt_at, crate::specs::Running::InvariantAt, crate::specs::Running::reads_under_way, crate::specs::Running::writes_under_way, crate::specs::Running::left_at))]
     fn take_read(&mut self, op: ReadOp, answer: u64)
         requires fits { NumbersFit self.old.own self.old.serial self.old.settings }
         requires op { IsReading self.old op }
@@ -282,7 +281,7 @@ impl Running {
     }
 
     // Notes what was read, and answers it.
-    #[tactic(auto, unfolding(crate::specs::Running::standing_so, crate::specs::Running::HoldsAt, crate::specs::Running::reads_under_way, crate::specs::Running::writes_under_way, crate::specs::Running::left_at))]
+    #[tactic(auto, unfolding(crate::specs::Running::attempt_at, crate::specs::Running::InvariantAt, crate::specs::Running::reads_under_way, crate::specs::Running::writes_under_way, crate::specs::Running::left_at))]
     fn note(&mut self, note: Note)
         requires fits { NumbersFit self.old.own self.old.serial self.old.settings }
         requires room { HasRoomFor self.old.footprint.reads note.addr.0 }
@@ -298,7 +297,7 @@ impl Running {
     }
 
     // An extension takes its answer.
-    #[tactic(auto, using(crate::proofs::Ends::extension_over), unfolding(crate::specs::Running::standing_so, crate::specs::Running::HoldsAt, crate::specs::Running::reads_under_way, crate::specs::Running::writes_under_way, crate::specs::Running::left_at))]
+    #[tactic(auto, using(crate::proofs::Ends::extension_over), unfolding(crate::specs::Running::attempt_at, crate::specs::Running::InvariantAt, crate::specs::Running::reads_under_way, crate::specs::Running::writes_under_way, crate::specs::Running::left_at))]
     fn take_extension(&mut self, read: ReadOp, first: Meta, op: ExtendOp, answer: u64)
         requires fits { NumbersFit self.old.own self.old.serial self.old.settings }
         requires op { IsExtending self.old read first op }
@@ -306,7 +305,7 @@ impl Running {
         ensures numbers { KeepsNumbers self.old self.new }
         ensures after { shown self.new ≡ after_word (extending op read.addr.0 read.left first (base self.old)) answer }
         ensures sound { IsSound self.new }
-        ensures falls { left_in self.new < left_at (AtExtend read first op) (length self.old.footprint.reads.notes) (length self.old.footprint.writes.writes) }
+        ensures falls { left_in self.new < left_at (in_state.Extend read first op) (length self.old.footprint.reads.notes) (length self.old.footprint.writes.writes) }
         ensures room { HasSpare (self.old.footprint.reads.spare - 1) self.old.footprint.writes.spare (machine_of self.new) }
     {
         let mut op = op;
@@ -319,7 +318,7 @@ impl Running {
     }
 
     // Goes on with a read at a later prefix.
-    #[tactic(auto, unfolding(crate::specs::Running::standing_so, crate::specs::Running::HoldsAt, crate::specs::Running::reads_under_way, crate::specs::Running::writes_under_way, crate::specs::Running::left_at))]
+    #[tactic(auto, unfolding(crate::specs::Running::attempt_at, crate::specs::Running::InvariantAt, crate::specs::Running::reads_under_way, crate::specs::Running::writes_under_way, crate::specs::Running::left_at))]
     fn go_on_reading(&mut self, read: ReadOp, prefix: u64)
         requires fits { NumbersFit self.old.own self.old.serial self.old.settings }
         requires own { read.own ≡ self.old.own }
@@ -327,7 +326,7 @@ impl Running {
         requires room { HasRoomFor self.old.footprint.reads read.addr.0 }
         ensures numbers { KeepsNumbers self.old self.new }
         ensures stands { (first : Meta) → end_of_read read ≡ Some (NeedExtension first) →
-            shown self.new ≡ at (record (base self.old) { prefix = prefix }) (Fetch read.addr.0 read.left first) }
+            shown self.new ≡ at (record (base self.old) { prefix = prefix }) (ReadValue read.addr.0 read.left first) }
         ensures sound { IsSound self.new }
         ensures left { left_in self.new + 1 + length self.old.footprint.reads.notes ≤ left_to_read read (length self.old.footprint.reads.notes) }
         ensures room { HasSpare (self.old.footprint.reads.spare - 1) self.old.footprint.writes.spare (machine_of self.new) }
@@ -339,7 +338,7 @@ impl Running {
     }
 
     // A first write takes its answer.
-    #[tactic(auto, using(crate::proofs::Ends::write_over), unfolding(crate::specs::Running::standing_so, crate::specs::Running::HoldsAt, crate::specs::Running::reads_under_way, crate::specs::Running::writes_under_way, crate::specs::Running::left_at))]
+    #[tactic(auto, using(crate::proofs::Ends::write_over), unfolding(crate::specs::Running::attempt_at, crate::specs::Running::InvariantAt, crate::specs::Running::reads_under_way, crate::specs::Running::writes_under_way, crate::specs::Running::left_at))]
     fn take_write(&mut self, op: AcquireOp, value: u64, answer: u64)
         requires fits { NumbersFit self.old.own self.old.serial self.old.settings }
         requires op { IsWriting self.old op }
@@ -360,7 +359,7 @@ impl Running {
     }
 
     // Buffers the first write of a cell.
-    #[tactic(auto, unfolding(crate::specs::Running::standing_so, crate::specs::Running::HoldsAt, crate::specs::Running::reads_under_way, crate::specs::Running::writes_under_way, crate::specs::Running::left_at))]
+    #[tactic(auto, unfolding(crate::specs::Running::attempt_at, crate::specs::Running::InvariantAt, crate::specs::Running::reads_under_way, crate::specs::Running::writes_under_way, crate::specs::Running::left_at))]
     fn write(&mut self, addr: Addr, value: u64)
         requires fits { NumbersFit self.old.own self.old.serial self.old.settings }
         requires unwritten { IsFalse (writes_to self.old.footprint.writes.writes addr.0) }
@@ -377,7 +376,7 @@ impl Running {
     }
 
     // A commit takes its answer, and goes on at once from a stop.
-    #[tactic(auto, using(crate::proofs::Ends::commit_over), unfolding(crate::specs::Running::standing_so, crate::specs::Running::HoldsAt, crate::specs::Running::reads_under_way, crate::specs::Running::writes_under_way, crate::specs::Running::left_at))]
+    #[tactic(auto, using(crate::proofs::Ends::commit_over), unfolding(crate::specs::Running::attempt_at, crate::specs::Running::InvariantAt, crate::specs::Running::reads_under_way, crate::specs::Running::writes_under_way, crate::specs::Running::left_at))]
     fn take_commit(&mut self, op: CommitOp, answer: u64)
         requires fits { NumbersFit self.old.own self.old.serial self.old.settings }
         requires op { IsCommitting self.old op }
@@ -404,7 +403,7 @@ impl Running {
     }
 
     // A commit failed, at this prefix where there is a new one.
-    #[tactic(auto, unfolding(crate::specs::Running::standing_so, crate::specs::Running::HoldsAt, crate::specs::Running::reads_under_way, crate::specs::Running::writes_under_way, crate::specs::Running::left_at))]
+    #[tactic(auto, unfolding(crate::specs::Running::attempt_at, crate::specs::Running::InvariantAt, crate::specs::Running::reads_under_way, crate::specs::Running::writes_under_way, crate::specs::Running::left_at))]
     fn roll_back_commit(&mut self, cause: Cause, prefix: Option<u64>)
         requires fits { NumbersFit self.old.own self.old.serial self.old.settings }
         ensures numbers { KeepsNumbers self.old self.new }
@@ -427,7 +426,7 @@ impl Running {
 
     /// Gives back each written cell, stores the status as idle, and ends so. That it has prepared says that its
     /// status was stored as preparing, which matters to what it shows alone.
-    #[tactic(auto, unfolding(crate::specs::Running::standing_so, crate::specs::Running::HoldsAt, crate::specs::Running::reads_under_way, crate::specs::Running::writes_under_way, crate::specs::Running::left_at))]
+    #[tactic(auto, unfolding(crate::specs::Running::attempt_at, crate::specs::Running::InvariantAt, crate::specs::Running::reads_under_way, crate::specs::Running::writes_under_way, crate::specs::Running::left_at))]
     pub fn go_back(&mut self, ending: Ending, prepared: bool)
         requires fits { NumbersFit self.old.own self.old.serial self.old.settings }
         ensures numbers { KeepsNumbers self.old self.new }
@@ -445,7 +444,7 @@ impl Running {
     }
 
     // A way back takes its answer.
-    #[tactic(auto, using(crate::proofs::Ends::back_over), unfolding(crate::specs::Running::standing_so, crate::specs::Running::HoldsAt, crate::specs::Running::reads_under_way, crate::specs::Running::writes_under_way, crate::specs::Running::left_at))]
+    #[tactic(auto, using(crate::proofs::Ends::back_over), unfolding(crate::specs::Running::attempt_at, crate::specs::Running::InvariantAt, crate::specs::Running::reads_under_way, crate::specs::Running::writes_under_way, crate::specs::Running::left_at))]
     fn take_back(&mut self, op: BackOp, ending: Ending, prepared: bool, answer: u64)
         requires fits { NumbersFit self.old.own self.old.serial self.old.settings }
         requires op { IsGoingBack self.old op }
@@ -475,7 +474,7 @@ impl Running {
 // The next access of an operation that goes on; the exchange of the clock has a name of its own.
 fn made(access: Option<Access>) -> Next
     ensures access { IfSome access (λ a. result ≡ named a) }
-    ensures goes_on { (reply : ReplyOf) → result ≡ ToReply reply → reply ≡ IsReady }
+    ensures goes_on { (reply : ReplyOf) → result ≡ coming.Reply reply → reply ≡ reply.Ready }
 {
     match access {
         Some(

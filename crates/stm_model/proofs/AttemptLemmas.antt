@@ -11,9 +11,9 @@ use Rattle.stm_model.specs.declared.note.Note.{Note}
 use Rattle.stm_model.specs.declared.cause.Cause.{Cause}
 use Rattle.stm_model.specs.declared.cause.HookPhase.{HookPhase}
 use Rattle.stm_model.specs.Accesses.{Answer, addr_of, next, next_at, unless_due}
-use Rattle.stm_model.specs.After.{after_at, answer_with, at, give_back_on, looked_twice, note_of, owning, ring_if, rolled, run_all, same_meta}
+use Rattle.stm_model.specs.After.{after_at, answer_with, at, release_level_on, validated, note_of, exchanged, ring_if, rolled, run_all, same_meta}
 use Rattle.stm_model.specs.Attempt.{Attempt, Due, Run, Stage, Ready, Late, Stopped, Ended, cause_at, cells_of}
-use Rattle.stm_model.specs.CellsState.{Book, CellsState, delayed, entered, hooked, kept, level_runs, undone, written}
+use Rattle.stm_model.specs.CellsState.{Book, CellsState, late_registered, entered, hooked, kept, level_runs, undone, written}
 use Rattle.stm_model.specs.Handlers.{Handlers}
 use Rattle.stm_model.specs.Heap.{writes_to}
 use Rattle.stm_model.specs.Moves.{AwaitsAskAt, Does, EndsLate, IsCall, Takes, late_over_at, asked_at, asked_going, asked_stopped, moved, moved_on}
@@ -98,7 +98,7 @@ asked-hook size t (Stopped cause) phase token waits going = cc going
 asked-hook size t _ phase token waits going = absurd waits
 
 asked-later : (size : ℕ) (t : Attempt) (stage : Stage) (token : ℕ) → AwaitsAskAt stage → cause_at stage ≡ None →
-    asked size t stage (Later token) ≡ delayed token (cells_of size (at t stage))
+    asked size t stage (Later token) ≡ late_registered token (cells_of size (at t stage))
 unfolding AwaitsAskAt asked_at asked_going cause_at
 asked-later size t (Ready answer) token waits going = refl
 asked-later size t (Late late) token waits going = refl
@@ -136,19 +136,19 @@ module _ (t : Attempt) (cell : Addr) where
 
 module _ (size : ℕ) (t : Attempt) (cell value left : ℕ) (first : Meta) where
   pub looked-noted : (second : Meta) → cause_at t.stage ≡ None → still_has t.own first.version second ≡ true →
-      cells_of size (looked_twice t cell left first value second) ≡
+      cells_of size (validated t cell left first value second) ≡
       record (cells_of size t) { reads = t.notes ++ record { addr = addr_of cell; version = first.version; value = value } ∷ [] }
-  unfolding looked_twice cause_at
+  unfolding validated cause_at
   looked-noted second going still = rw still (rw going refl)
 
   pub looked-told : (second : Meta) → still_has t.own first.version second ≡ true →
-      (looked_twice t cell left first value second).stage ≡ Ready (Some value)
-  unfolding looked_twice
+      (validated t cell left first value second).stage ≡ Ready (Some value)
+  unfolding validated
   looked-told second still = rw still refl
 
   pub owned-written : (tried : Bool) (expected : Meta) (again : Bool) (found : Meta) → cause_at t.stage ≡ None → same_meta found expected ≡ true →
-      cells_of size (owning t cell value left tried first expected again found) ≡ written cell value (cells_of size t)
-  unfolding owning cause_at
+      cells_of size (exchanged t cell value left tried first expected again found) ≡ written cell value (cells_of size t)
+  unfolding exchanged cause_at
   owned-written tried expected again found going won = rw won (rw going refl)
 
 module _ (size : ℕ) (t : Attempt) where
@@ -172,7 +172,7 @@ module _ (size : ℕ) (t : Attempt) where
   hook-is-hooked = asked-hook size t t.stage
 
   pub later-is-delayed : (token : ℕ) → AwaitsAskAt t.stage → cause_at t.stage ≡ None →
-      cells_of size (moved t (Takes (Later token))) ≡ delayed token (cells_of size t)
+      cells_of size (moved t (Takes (Later token))) ≡ late_registered token (cells_of size t)
   unfolding moved
   later-is-delayed = asked-later size t t.stage
 
@@ -190,19 +190,19 @@ runs-due size t (hook ∷ hooks) due =
 -- once the cells of a level are given back and its handlers have run
 abbrev given_back : ℕ → List (ℕ × ℕ) → Attempt → CellsState
 given_back size keep t =
-    cells_of size (moved_on (give_back_on t keep []) (replicate (length (give_back_on t keep []).due) Does))
+    cells_of size (moved_on (release_level_on t keep []) (replicate (length (release_level_on t keep []).due) Does))
 
 undone-here : (size : ℕ) (keep : List (ℕ × ℕ)) (t : Attempt) (former : Book) (books : List Book) (pending : Bool) (cell : ℕ) → cause_at t.stage ≡ None →
     (let level : Attempt = record t { saved = former ∷ books; due = ring_if pending cell } in given_back size keep level ≡ undone (cells_of size level))
 unfolding cause_at moved
 undone-here size keep t former books false cell going =
     let hooks : Handlers = level_runs (former ∷ books) t.now in
-    let after : Attempt = give_back_on (record t { saved = former ∷ books; due = [] }) keep [] in
+    let after : Attempt = release_level_on (record t { saved = former ∷ books; due = [] }) keep [] in
     rw (length-map hooks (λ hook. Run hook.0 hook.1)) (rw going (runs-due size after hooks refl))
 undone-here size keep t former books true cell going =
     let hooks : Handlers = level_runs (former ∷ books) t.now in
     let rung : Attempt = record t { saved = former ∷ books; due = []; rings = t.rings ++ cell ∷ [] } in
-    let after : Attempt = give_back_on rung keep [] in
+    let after : Attempt = release_level_on rung keep [] in
     rw (length-map hooks (λ hook. Run hook.0 hook.1)) (rw going (runs-due size after hooks refl))
 
 undone-level : (size : ℕ) (keep : List (ℕ × ℕ)) (t : Attempt) (saved : List Book) (pending : Bool) (cell : ℕ) → 0 < length saved → cause_at t.stage ≡ None →

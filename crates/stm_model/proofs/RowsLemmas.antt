@@ -10,7 +10,7 @@ use Rattle.stm_model.specs.declared.cause.Addr.{Addr}
 use Rattle.stm_model.specs.declared.cause.Cause.{Cause}
 use Rattle.stm_model.specs.declared.cause.Cause.TheVariants.{ReadConflict, Stale, WriteConflict}
 use Rattle.stm_model.specs.Accesses.{addr_of, next_at}
-use Rattle.stm_model.specs.After.{acquiring, after_at, check_on, checked, decided, extended, final_runs, looked, looked_twice, owner_seen, owner_seen_again, owning, prepared, same_bool, same_but_pending, same_meta}
+use Rattle.stm_model.specs.After.{acquiring, after_at, validate_on, note_validated, decided, extended, final_runs, meta_read, validated, owner_status_loaded, owner_validated, exchanged, prepared, same_bool, same_but_pending, same_meta}
 use Rattle.stm_model.specs.Attempt.{Attempt, Due, Ended, Late, Ready, Stage, Stopped, cause_at}
 use Rattle.stm_model.specs.Moves.{Begins, May, MayAbandon, MayAsk, Move, Takes, AwaitsAskAt, asked_at, asked_going, asked_stopped, moved}
 use Rattle.stm_model.specs.Rows.{settings_of, terms_of}
@@ -194,5 +194,5 @@ all_may opening policy events h = run_may (terms_of opening) (opened (terms_of o
 
 -- To unfold this is to unfold all that a schedule computes with.
 unfoldable pub computes : World → List Event → World
-unfolding happened step_by found words_after seen_after clock_after since_at replaced next_at after_at looked extended looked_twice acquiring owning owner_seen owner_seen_again prepared check_on checked decided final_runs moved asked_at asked_going asked_stopped
+unfolding happened step_by found words_after seen_after clock_after since_at replaced next_at after_at meta_read extended validated acquiring exchanged owner_status_loaded owner_validated prepared validate_on note_validated decided final_runs moved asked_at asked_going asked_stopped
 computes w events = run w events

@@ -11,17 +11,17 @@ use Rattle.stm_model.specs.declared.access.Access.TheVariants.{Load, Store, Swap
 use Rattle.stm_model.specs.declared.access.Word.{Word}
 use Rattle.stm_model.specs.declared.access.Word.TheVariants.{Clock, Status, Meta as MetaOf, Value}
 use Rattle.stm_model.specs.declared.cause.Addr.{Addr}
-use Rattle.stm_model.specs.Attempt.{Attempt, Due, Stage, Announce, Begin, FirstLook, Renew, Extend, Fetch, SecondLook, Acquire, Own, SeeOwner, SeeAgain, DoomOwner, GiveBack, Prepare, Mark, Sample, Check, Decide, StoreValues, Release, RollBack, Close, stamp_of}
+use Rattle.stm_model.specs.Attempt.{Attempt, Due, Stage, Announce, Begin, ReadMeta, ExtendClock, ExtendNote, ReadValue, Validate, AcquireMeta, Acquire, OwnerStatus, OwnerMeta, DoomOwner, ReleaseLevel, Prepare, Mark, CommitClock, CommitNote, Decide, StoreValues, Release, RollBack, Close, stamp_of}
 
 -- An access to a shared word, by the fields of the word.
 pub data Act : Type 0 where
   LoadClock : Act
-  TakeClock : (old : ℕ) → Act
+  ExchangeClock : (old : ℕ) → Act
   LoadStatus : (caller : ℕ) → Act
   StoreStatus : (caller : ℕ) → (new : TxnStatus) → Act
-  TakeStatus : (caller : ℕ) → (old new : TxnStatus) → Act
+  ExchangeStatus : (caller : ℕ) → (old new : TxnStatus) → Act
   LoadMeta : (cell : ℕ) → Act
-  TakeMeta : (cell : ℕ) → (old new : Meta) → Act
+  ExchangeMeta : (cell : ℕ) → (old new : Meta) → Act
   SetChanging : (cell : ℕ) → Act
   SetPending : (cell : ℕ) → Act
   ClearOwner : (cell : ℕ) → Act
@@ -56,22 +56,22 @@ doomed status = record status { phase = Doomed }
 unfoldable pub next_at : Attempt → Stage → Option Act
 next_at t Announce = Some (StoreStatus t.own (active t.serial))
 next_at t Begin = Some LoadClock
-next_at t (FirstLook cell left) = Some (LoadMeta cell)
-next_at t (Renew cell left first) = Some LoadClock
-next_at t (Extend cell left first clock note behind) = Some (LoadMeta note.addr.0)
-next_at t (Fetch cell left first) = Some (LoadValue cell)
-next_at t (SecondLook cell left first value) = Some (LoadMeta cell)
-next_at t (Acquire cell value left tried) = Some (LoadMeta cell)
-next_at t (Own cell value left tried first expected again) = Some (TakeMeta cell expected (owned t.own expected))
-next_at t (SeeOwner cell value left first) = Some (LoadStatus first.owner)
-next_at t (SeeAgain cell value left first status) = Some (LoadMeta cell)
-next_at t (DoomOwner cell value left first second status) = Some (TakeStatus first.owner status (doomed status))
-next_at t (GiveBack kept write behind) = Some (ClearOwner write.0)
-next_at t Prepare = Some (TakeStatus t.own (active t.serial) (record { serial = t.serial; phase = Preparing }))
+next_at t (ReadMeta cell left) = Some (LoadMeta cell)
+next_at t (ExtendClock cell left first) = Some LoadClock
+next_at t (ExtendNote cell left first clock note behind) = Some (LoadMeta note.addr.0)
+next_at t (ReadValue cell left first) = Some (LoadValue cell)
+next_at t (Validate cell left first value) = Some (LoadMeta cell)
+next_at t (AcquireMeta cell value left tried) = Some (LoadMeta cell)
+next_at t (Acquire cell value left tried first expected again) = Some (ExchangeMeta cell expected (owned t.own expected))
+next_at t (OwnerStatus cell value left first) = Some (LoadStatus first.owner)
+next_at t (OwnerMeta cell value left first status) = Some (LoadMeta cell)
+next_at t (DoomOwner cell value left first second status) = Some (ExchangeStatus first.owner status (doomed status))
+next_at t (ReleaseLevel kept write behind) = Some (ClearOwner write.0)
+next_at t Prepare = Some (ExchangeStatus t.own (active t.serial) (record { serial = t.serial; phase = Preparing }))
 next_at t (Mark write behind) = Some (SetChanging write.0)
-next_at t (Sample lost) = Some LoadClock
-next_at t (Check lost clock note behind) = Some (LoadMeta note.addr.0)
-next_at t (Decide lost clock) = Some (TakeClock clock)
+next_at t (CommitClock lost) = Some LoadClock
+next_at t (CommitNote lost clock note behind) = Some (LoadMeta note.addr.0)
+next_at t (Decide lost clock) = Some (ExchangeClock clock)
 next_at t (StoreValues write behind) = Some (StoreValue write.0 write.1)
 next_at t (Release write behind) = Some (SwapMeta write.0 (released (stamp_of t)))
 next_at t (RollBack write behind) = Some (ClearOwner write.0)
@@ -101,12 +101,12 @@ value_of_cell cell = Value (addr_of cell)
 -- the access with its words packed
 unfoldable pub access_of : Act → Access
 access_of LoadClock = Load Clock
-access_of (TakeClock old) = Exchange Clock old (suc old)
+access_of (ExchangeClock old) = Exchange Clock old (suc old)
 access_of (LoadStatus caller) = Load (Status caller)
 access_of (StoreStatus caller new) = Store (Status caller) (status_word new)
-access_of (TakeStatus caller old new) = Exchange (Status caller) (status_word old) (status_word new)
+access_of (ExchangeStatus caller old new) = Exchange (Status caller) (status_word old) (status_word new)
 access_of (LoadMeta cell) = Load (meta_of_cell cell)
-access_of (TakeMeta cell old new) = Exchange (meta_of_cell cell) (meta_word old) (meta_word new)
+access_of (ExchangeMeta cell old new) = Exchange (meta_of_cell cell) (meta_word old) (meta_word new)
 access_of (SetChanging cell) = SetBits (meta_of_cell cell) CHANGING_BIT
 access_of (SetPending cell) = SetBits (meta_of_cell cell) PENDING_BIT
 access_of (ClearOwner cell) = ClearBits (meta_of_cell cell) OWNER_AND_CHANGING_BITS
@@ -125,10 +125,10 @@ next_access t = packed (next t)
 -- the word that an access found, by its fields
 unfoldable pub answer_of : Act → ℕ → Answer
 answer_of LoadClock word = Number word
-answer_of (TakeClock old) word = Number word
+answer_of (ExchangeClock old) word = Number word
 answer_of (LoadStatus caller) word = OfStatus (status_of word)
 answer_of (StoreStatus caller new) word = OfStatus (status_of word)
-answer_of (TakeStatus caller old new) word = OfStatus (status_of word)
+answer_of (ExchangeStatus caller old new) word = OfStatus (status_of word)
 answer_of (LoadValue cell) word = Number word
 answer_of (StoreValue cell value) word = Number word
 answer_of _ word = OfMeta (meta_of word)

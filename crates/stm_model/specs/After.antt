@@ -17,7 +17,7 @@ use Rattle.stm_model.specs.CellsState.{level_runs, outer, returned}
 use Rattle.stm_model.specs.Handlers.{Handlers, after_commit, committing, preparing, undoing}
 use Rattle.stm_model.specs.Heap.{put}
 use Rattle.stm_model.specs.Accesses.{Act, Answer, Number, OfMeta, OfStatus, active, addr_of, answer_of, next}
-use Rattle.stm_model.specs.Attempt.{Attempt, Due, Run, Ring, Stage, Write, Announce, Begin, Ready, Stopped, FirstLook, Renew, Extend, Fetch, SecondLook, Acquire, Own, SeeOwner, SeeAgain, DoomOwner, GiveBack, Prepare, Mark, Sample, Check, Decide, StoreValues, Release, RollBack, Close, Ended}
+use Rattle.stm_model.specs.Attempt.{Attempt, Due, Run, Ring, Stage, Write, Announce, Begin, Ready, Stopped, ReadMeta, ExtendClock, ExtendNote, ReadValue, Validate, AcquireMeta, Acquire, OwnerStatus, OwnerMeta, DoomOwner, ReleaseLevel, Prepare, Mark, CommitClock, CommitNote, Decide, StoreValues, Release, RollBack, Close, Ended}
 
 -- the attempt at another stage
 abbrev pub at : Attempt → Stage → Attempt
@@ -89,20 +89,20 @@ rolled t cause = roll_on (record t { ending = Some (Rolled cause t.prefix) }) t.
 -- ---- it reads
 
 -- A round of a read is over: one more, or it is refused.
-abbrev pub look_again : Attempt → ℕ → ℕ → Cause → Attempt
-look_again t cell zero cause = stopped t cause
-look_again t cell (suc left) cause = at t (FirstLook cell left)
+abbrev pub read_again : Attempt → ℕ → ℕ → Cause → Attempt
+read_again t cell zero cause = stopped t cause
+read_again t cell (suc left) cause = at t (ReadMeta cell left)
 
 -- A first look: the round is over where another is changing the cell, and an extension comes first where the version is past the prefix.
-unfoldable pub looked : Attempt → ℕ → ℕ → Meta → Attempt
-looked t cell left first =
-    if changing_by_another t.own first then look_again t cell left (ReadConflict (addr_of cell) first) else
-    if nat_lt t.prefix first.version then at t (Renew cell left first) else at t (Fetch cell left first)
+unfoldable pub meta_read : Attempt → ℕ → ℕ → Meta → Attempt
+meta_read t cell left first =
+    if changing_by_another t.own first then read_again t cell left (ReadConflict (addr_of cell) first) else
+    if nat_lt t.prefix first.version then at t (ExtendClock cell left first) else at t (ReadValue cell left first)
 
 -- An extension goes on along the notes. At their end the prefix is the clock.
 abbrev pub extend_on : Attempt → ℕ → ℕ → Meta → ℕ → List Note → Attempt
-extend_on t cell left first clock [] = at (record t { prefix = clock }) (Fetch cell left first)
-extend_on t cell left first clock (note ∷ behind) = at t (Extend cell left first clock note behind)
+extend_on t cell left first clock [] = at (record t { prefix = clock }) (ReadValue cell left first)
+extend_on t cell left first clock (note ∷ behind) = at t (ExtendNote cell left first clock note behind)
 
 -- A look at a noted cell, for an extension.
 unfoldable pub extended : Attempt → ℕ → ℕ → Meta → ℕ → Note → List Note → Meta → Attempt
@@ -112,11 +112,11 @@ extended t cell left first clock note behind found =
     else stopped t (Stale note.addr note.version found)
 
 -- A second look: the value is noted where the cell still stands as at the first.
-unfoldable pub looked_twice : Attempt → ℕ → ℕ → Meta → ℕ → Meta → Attempt
-looked_twice t cell left first value second =
+unfoldable pub validated : Attempt → ℕ → ℕ → Meta → ℕ → Meta → Attempt
+validated t cell left first value second =
     if still_has t.own first.version second
     then answer_with (record t { notes = t.notes ++ record { addr = addr_of cell; version = first.version; value = value } ∷ [] }) value
-    else look_again t cell left (Moved (addr_of cell) first second)
+    else read_again t cell left (Moved (addr_of cell) first second)
 
 -- ---- it takes a cell that it writes for the first time
 
@@ -126,73 +126,73 @@ write_refused own cell first latest =
     if owned_by_another own latest then WriteConflict (addr_of cell) latest else Moved (addr_of cell) first latest
 
 -- A round of a first write is over: one more, or it is refused.
-abbrev pub take_again : Attempt → ℕ → ℕ → ℕ → Bool → Meta → Meta → Attempt
-take_again t cell value zero tried first latest = stopped t (write_refused t.own cell first latest)
-take_again t cell value (suc left) tried first latest = at t (Acquire cell value left tried)
+abbrev pub acquire_again : Attempt → ℕ → ℕ → ℕ → Bool → Meta → Meta → Attempt
+acquire_again t cell value zero tried first latest = stopped t (write_refused t.own cell first latest)
+acquire_again t cell value (suc left) tried first latest = at t (AcquireMeta cell value left tried)
 
 -- Another owns the cell: that one may be doomed, once for the write, or the round is over.
-abbrev pub taken : Attempt → ℕ → ℕ → ℕ → Bool → Meta → Attempt
-taken t cell value left tried first =
+abbrev pub doom_or_again : Attempt → ℕ → ℕ → ℕ → Bool → Meta → Attempt
+doom_or_again t cell value left tried first =
     if dooms t.settings.policy && not tried
-    then at t (SeeOwner cell value left first)
-    else take_again t cell value left tried first first
+    then at t (OwnerStatus cell value left first)
+    else acquire_again t cell value left tried first first
 
 -- A first look at a cell that is to be taken. Where nobody owns it, it is exchanged.
 unfoldable pub acquiring : Attempt → ℕ → ℕ → ℕ → Bool → Meta → Attempt
 acquiring t cell value left tried first =
     if owned_by_another t.own first
-    then taken t cell value left tried first
+    then doom_or_again t cell value left tried first
     else if nat_eq first.owner 0
-    then at t (Own cell value left tried first first false)
-    else take_again t cell value left tried first first
+    then at t (Acquire cell value left tried first first false)
+    else acquire_again t cell value left tried first first
 
 -- A cell that was read at another version is stale, whoever owns it.
-abbrev pub acquired : Attempt → ℕ → ℕ → ℕ → Bool → Option Note → Meta → Attempt
-acquired t cell value left tried None first = acquiring t cell value left tried first
-acquired t cell value left tried (Some note) first =
+abbrev pub meta_acquired : Attempt → ℕ → ℕ → ℕ → Bool → Option Note → Meta → Attempt
+meta_acquired t cell value left tried None first = acquiring t cell value left tried first
+meta_acquired t cell value left tried (Some note) first =
     if nat_eq note.version first.version
     then acquiring t cell value left tried first
     else stopped t (Stale note.addr note.version first)
 
 -- Who won the exchange owns the cell and writes it. An exchange lost to the pending bit alone is tried once more.
-unfoldable pub owning : Attempt → ℕ → ℕ → ℕ → Bool → Meta → Meta → Bool → Meta → Attempt
-owning t cell value left tried first expected again found =
+unfoldable pub exchanged : Attempt → ℕ → ℕ → ℕ → Bool → Meta → Meta → Bool → Meta → Attempt
+exchanged t cell value left tried first expected again found =
     if same_meta found expected
     then done (record t { now = record t.now { writes = put t.now.writes cell value } })
     else if not again && same_but_pending found expected
-    then at t (Own cell value left tried first found true)
-    else take_again t cell value left tried first found
+    then at t (Acquire cell value left tried first found true)
+    else acquire_again t cell value left tried first found
 
 -- Only an active owner is looked at again.
-unfoldable pub owner_seen : Attempt → ℕ → ℕ → ℕ → Meta → TxnStatus → Attempt
-owner_seen t cell value left first status =
+unfoldable pub owner_status_loaded : Attempt → ℕ → ℕ → ℕ → Meta → TxnStatus → Attempt
+owner_status_loaded t cell value left first status =
     if is_active status.phase
-    then at t (SeeAgain cell value left first status)
-    else take_again t cell value left true first first
+    then at t (OwnerMeta cell value left first status)
+    else acquire_again t cell value left true first first
 
 -- Only an owner that still holds the cell, and isn't changing it, is doomed.
-unfoldable pub owner_seen_again : Attempt → ℕ → ℕ → ℕ → Meta → TxnStatus → Meta → Attempt
-owner_seen_again t cell value left first status second =
+unfoldable pub owner_validated : Attempt → ℕ → ℕ → ℕ → Meta → TxnStatus → Meta → Attempt
+owner_validated t cell value left first status second =
     if nat_eq second.owner first.owner && not second.changing
     then at t (DoomOwner cell value left first second status)
-    else take_again t cell value left true first second
+    else acquire_again t cell value left true first second
 
 -- ---- it undoes a level
 
 -- The cells that were first written in the level are given back. Then the book is the one from before it, and its handlers are due.
-abbrev pub give_back_on : Attempt → List Write → List Write → Attempt
-give_back_on t kept [] = done (record t {
+abbrev pub release_level_on : Attempt → List Write → List Write → Attempt
+release_level_on t kept [] = done (record t {
   now = returned t.saved t.now;
   saved = outer t.saved;
   due = t.due ++ run_all (level_runs t.saved t.now);
 })
-give_back_on t kept (write ∷ behind) = at t (GiveBack kept write behind)
+release_level_on t kept (write ∷ behind) = at t (ReleaseLevel kept write behind)
 
 -- ---- it commits
 
 -- Each cell that was written is marked. Then the clock is loaded.
 abbrev pub mark_on : Attempt → List Write → Attempt
-mark_on t [] = at t (Sample 0)
+mark_on t [] = at t (CommitClock 0)
 mark_on t (write ∷ behind) = at t (Mark write behind)
 
 -- Who exchanged its status from active prepares; who was doomed is rolled back.
@@ -203,18 +203,18 @@ prepared t found =
     else rolled t (Doomed found)
 
 -- The notes are checked one after another. Then the clock is tried for, unless it is at its limit.
-unfoldable pub check_on : Attempt → ℕ → ℕ → List Note → Attempt
-check_on t lost clock [] =
+unfoldable pub validate_on : Attempt → ℕ → ℕ → List Note → Attempt
+validate_on t lost clock [] =
     if nat_eq clock t.settings.clock
     then rolled (record t { prefix = clock }) (ClockEnd clock)
     else at t (Decide lost clock)
-check_on t lost clock (note ∷ behind) = at t (Check lost clock note behind)
+validate_on t lost clock (note ∷ behind) = at t (CommitNote lost clock note behind)
 
 -- A look at a noted cell, for a commit.
-unfoldable pub checked : Attempt → ℕ → ℕ → Note → List Note → Meta → Attempt
-checked t lost clock note behind found =
+unfoldable pub note_validated : Attempt → ℕ → ℕ → Note → List Note → Meta → Attempt
+note_validated t lost clock note behind found =
     if still_has t.own note.version found
-    then check_on t lost clock behind
+    then validate_on t lost clock behind
     else rolled t (Stale note.addr note.version found)
 
 -- Each cell is released. Then the status is stored.
@@ -233,7 +233,7 @@ decided t lost clock found =
     if nat_eq found clock
     then store_on (record t { ending = Some (Committed (suc clock)); due = run_all (committing t.now.hooks) }) t.now.writes
     else if nat_lt lost t.settings.tries
-    then at t (Sample (suc lost))
+    then at t (CommitClock (suc lost))
     else rolled t (ClockMoved clock found)
 
 -- ---- it is over
@@ -247,21 +247,21 @@ final_runs _ hooks = after_commit hooks
 unfoldable pub after_at : Attempt → Stage → Answer → Attempt
 after_at t Announce (OfStatus found) = at (record t { phase = Active }) Begin
 after_at t Begin (Number clock) = done (record t { prefix = clock })
-after_at t (FirstLook cell left) (OfMeta found) = looked t cell left found
-after_at t (Renew cell left first) (Number clock) = extend_on t cell left first clock t.notes
-after_at t (Extend cell left first clock note behind) (OfMeta found) = extended t cell left first clock note behind found
-after_at t (Fetch cell left first) (Number value) = at t (SecondLook cell left first value)
-after_at t (SecondLook cell left first value) (OfMeta found) = looked_twice t cell left first value found
-after_at t (Acquire cell value left tried) (OfMeta found) = acquired t cell value left tried (note_of t.notes cell) found
-after_at t (Own cell value left tried first expected again) (OfMeta found) = owning t cell value left tried first expected again found
-after_at t (SeeOwner cell value left first) (OfStatus found) = owner_seen t cell value left first found
-after_at t (SeeAgain cell value left first status) (OfMeta found) = owner_seen_again t cell value left first status found
-after_at t (DoomOwner cell value left first second status) (OfStatus found) = take_again t cell value left true first second
-after_at t (GiveBack kept write behind) (OfMeta found) = give_back_on (record t { due = ring_if found.pending write.0 }) kept behind
+after_at t (ReadMeta cell left) (OfMeta found) = meta_read t cell left found
+after_at t (ExtendClock cell left first) (Number clock) = extend_on t cell left first clock t.notes
+after_at t (ExtendNote cell left first clock note behind) (OfMeta found) = extended t cell left first clock note behind found
+after_at t (ReadValue cell left first) (Number value) = at t (Validate cell left first value)
+after_at t (Validate cell left first value) (OfMeta found) = validated t cell left first value found
+after_at t (AcquireMeta cell value left tried) (OfMeta found) = meta_acquired t cell value left tried (note_of t.notes cell) found
+after_at t (Acquire cell value left tried first expected again) (OfMeta found) = exchanged t cell value left tried first expected again found
+after_at t (OwnerStatus cell value left first) (OfStatus found) = owner_status_loaded t cell value left first found
+after_at t (OwnerMeta cell value left first status) (OfMeta found) = owner_validated t cell value left first status found
+after_at t (DoomOwner cell value left first second status) (OfStatus found) = acquire_again t cell value left true first second
+after_at t (ReleaseLevel kept write behind) (OfMeta found) = release_level_on (record t { due = ring_if found.pending write.0 }) kept behind
 after_at t Prepare (OfStatus found) = prepared t found
 after_at t (Mark write behind) (OfMeta found) = mark_on t behind
-after_at t (Sample lost) (Number clock) = check_on t lost clock t.notes
-after_at t (Check lost clock note behind) (OfMeta found) = checked t lost clock note behind found
+after_at t (CommitClock lost) (Number clock) = validate_on t lost clock t.notes
+after_at t (CommitNote lost clock note behind) (OfMeta found) = note_validated t lost clock note behind found
 after_at t (Decide lost clock) (Number found) = decided t lost clock found
 after_at t (StoreValues write behind) (Number found) = store_on t behind
 after_at t (Release write behind) (OfMeta found) = release_on (record t { due = ring_if found.pending write.0 }) behind

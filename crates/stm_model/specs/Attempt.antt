@@ -29,25 +29,25 @@ pub data Stage : Type 0 where
   -- it was refused something and waits to be rolled back
   Stopped : (cause : Cause) → Stage
   -- it reads a cell: the metadata, an extension where that is newer than the prefix, the value, the metadata again
-  FirstLook : (cell left : ℕ) → Stage
-  Renew : (cell left : ℕ) → (first : Meta) → Stage
-  Extend : (cell left : ℕ) → (first : Meta) → (clock : ℕ) → (note : Note) → (behind : List Note) → Stage
-  Fetch : (cell left : ℕ) → (first : Meta) → Stage
-  SecondLook : (cell left : ℕ) → (first : Meta) → (value : ℕ) → Stage
+  ReadMeta : (cell left : ℕ) → Stage
+  ExtendClock : (cell left : ℕ) → (first : Meta) → Stage
+  ExtendNote : (cell left : ℕ) → (first : Meta) → (clock : ℕ) → (note : Note) → (behind : List Note) → Stage
+  ReadValue : (cell left : ℕ) → (first : Meta) → Stage
+  Validate : (cell left : ℕ) → (first : Meta) → (value : ℕ) → Stage
   -- it takes a cell that it is to write: the metadata, then an exchange of it, a second one where only the pending bit came between
-  Acquire : (cell value left : ℕ) → (tried : Bool) → Stage
-  Own : (cell value left : ℕ) → (tried : Bool) → (first expected : Meta) → (again : Bool) → Stage
+  AcquireMeta : (cell value left : ℕ) → (tried : Bool) → Stage
+  Acquire : (cell value left : ℕ) → (tried : Bool) → (first expected : Meta) → (again : Bool) → Stage
   -- it looks whether the cell's owner can be doomed, and dooms it
-  SeeOwner : (cell value left : ℕ) → (first : Meta) → Stage
-  SeeAgain : (cell value left : ℕ) → (first : Meta) → (status : TxnStatus) → Stage
+  OwnerStatus : (cell value left : ℕ) → (first : Meta) → Stage
+  OwnerMeta : (cell value left : ℕ) → (first : Meta) → (status : TxnStatus) → Stage
   DoomOwner : (cell value left : ℕ) → (first second : Meta) → (status : TxnStatus) → Stage
   -- it undoes a level: the cells that were first written there are given back, and these writes stay
-  GiveBack : (kept : List Write) → (write : Write) → (behind : List Write) → Stage
+  ReleaseLevel : (kept : List Write) → (write : Write) → (behind : List Write) → Stage
   -- it commits: its status, a mark on each cell, the clock, its notes, the clock's exchange, the values, the release of each cell
   Prepare : Stage
   Mark : (write : Write) → (behind : List Write) → Stage
-  Sample : (lost : ℕ) → Stage
-  Check : (lost clock : ℕ) → (note : Note) → (behind : List Note) → Stage
+  CommitClock : (lost : ℕ) → Stage
+  CommitNote : (lost clock : ℕ) → (note : Note) → (behind : List Note) → Stage
   Decide : (lost clock : ℕ) → Stage
   StoreValues : (write : Write) → (behind : List Write) → Stage
   Release : (write : Write) → (behind : List Write) → Stage
@@ -127,7 +127,7 @@ stamp_of attempt = stamp_in attempt.ending
 unfoldable pub held_at : List Write → Stage → List Write
 held_at writes Announce = []
 held_at writes Begin = []
-held_at writes (GiveBack kept write behind) = kept ++ write ∷ behind
+held_at writes (ReleaseLevel kept write behind) = kept ++ write ∷ behind
 held_at writes (Release write behind) = write ∷ behind
 held_at writes (RollBack write behind) = write ∷ behind
 held_at writes Close = []
@@ -141,10 +141,10 @@ has_prepared _ = false
 
 -- those of them that it has not marked as changing
 unfoldable pub unmarked_at : Phase → List Write → Stage → List Write
-unmarked_at phase writes (GiveBack kept write behind) = kept ++ write ∷ behind
+unmarked_at phase writes (ReleaseLevel kept write behind) = kept ++ write ∷ behind
 unmarked_at phase writes (Mark write behind) = write ∷ behind
-unmarked_at phase writes (Sample lost) = []
-unmarked_at phase writes (Check lost clock note behind) = []
+unmarked_at phase writes (CommitClock lost) = []
+unmarked_at phase writes (CommitNote lost clock note behind) = []
 unmarked_at phase writes (Decide lost clock) = []
 unmarked_at phase writes (StoreValues write behind) = []
 unmarked_at phase writes (Release write behind) = []

@@ -33,8 +33,8 @@ written address value state = record state { now = record state.now { writes = p
 abbrev pub hooked : HookPhase → ℕ → CellsState → CellsState
 hooked phase token state = record state { now = record state.now { hooks = state.now.hooks ++ (phase, token) ∷ [] } }
 
-abbrev pub delayed : ℕ → CellsState → CellsState
-delayed token state = record state { now = record state.now { laters = state.now.laters ++ token ∷ [] } }
+abbrev pub late_registered : ℕ → CellsState → CellsState
+late_registered token state = record state { now = record state.now { laters = state.now.laters ++ token ∷ [] } }
 
 -- one level more, which began with the book as it is
 abbrev pub entered : CellsState → CellsState

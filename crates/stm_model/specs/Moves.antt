@@ -10,8 +10,8 @@ use Rattle.stm_model.specs.declared.cause.Cause.TheVariants.{Full, Memory, Retry
 use Rattle.stm_model.specs.declared.ending.Ending.TheVariants.{Read}
 use Rattle.stm_model.specs.declared.note.Note.{Note}
 use Rattle.stm_model.specs.declared.settings.Settings.{Settings}
-use Rattle.stm_model.specs.After.{at, done, give_back_on, note_of, rolled, run_all, stopped, answer_with}
-use Rattle.stm_model.specs.Attempt.{Acquire, Announce, Attempt, Close, Due, Ended, FirstLook, Late, Prepare, Ready, Ring, Run, Stage, Stopped, Write, cause_at, no_attempt}
+use Rattle.stm_model.specs.After.{at, done, release_level_on, note_of, rolled, run_all, stopped, answer_with}
+use Rattle.stm_model.specs.Attempt.{AcquireMeta, Announce, Attempt, Close, Due, Ended, ReadMeta, Late, Prepare, Ready, Ring, Run, Stage, Stopped, Write, cause_at, no_attempt}
 use Rattle.stm_model.specs.CellsState.{Book, outer}
 use Rattle.stm_model.specs.Handlers.{committing, preparing}
 use Rattle.stm_model.specs.Heap.{put, writes_to}
@@ -22,7 +22,7 @@ use Rattle.stm_model.specs.Refusing.{deepest}
 -- what is read of a cell that isn't buffered: its noted value, or else it is looked at
 abbrev pub read_noted : Attempt → ℕ → Option Note → Attempt
 read_noted t cell (Some note) = answer_with t note.value
-read_noted t cell None = at t (FirstLook cell (looks t.settings.policy))
+read_noted t cell None = at t (ReadMeta cell (looks t.settings.policy))
 
 -- what is read of a cell: the buffered value before all others
 abbrev pub read_buffered : Attempt → ℕ → Option ℕ → Attempt
@@ -34,7 +34,7 @@ abbrev pub write_cell : Attempt → ℕ → ℕ → Attempt
 write_cell t cell value =
     if writes_to t.now.writes cell
     then done (record t { now = record t.now { writes = put t.now.writes cell value } })
-    else at t (Acquire cell value (looks t.settings.policy) false)
+    else at t (AcquireMeta cell value (looks t.settings.policy) false)
 
 -- A level opens, unless as many as may be are open.
 abbrev pub enter_level : Attempt → Attempt
@@ -43,7 +43,7 @@ enter_level t = if nat_lt (length t.saved) deepest then done (record t { saved =
 -- What was first written in the innermost level is given back.
 abbrev pub undo_level : Attempt → List Book → Attempt
 undo_level t [] = t
-undo_level t (former ∷ books) = give_back_on t former.writes (drop (length former.writes) t.now.writes)
+undo_level t (former ∷ books) = release_level_on t former.writes (drop (length former.writes) t.now.writes)
 
 -- ---- the end of a body
 
@@ -113,7 +113,7 @@ begun t settings = record (no_attempt t.own settings) { serial = suc t.serial; s
 pub data Move : Type 0 where
   -- an ask is taken, or refused for want of memory
   Takes : (ask : Ask) → Move
-  Lacks : (ask : Ask) → Move
+  OutOfMemory : (ask : Ask) → Move
   -- what is due first is done
   Does : Move
   -- a late body is over
@@ -126,7 +126,7 @@ pub data Move : Type 0 where
 -- an attempt after a local move
 unfoldable pub moved : Attempt → Move → Attempt
 moved t (Takes ask) = asked_at t t.stage ask
-moved t (Lacks ask) = stopped t Memory
+moved t (OutOfMemory ask) = stopped t Memory
 moved t Does = did_first t t.due
 moved t EndsLate = late_over_at t t.stage
 moved t (Begins settings) = begun t settings
@@ -173,18 +173,18 @@ MayAsk size t (Abandon cause) = MayAbandon t cause
 MayAsk size t _ = Unit {0}
 
 -- A first read, a write, a level, a handler and a late body may want memory.
-unfoldable pub MayLack : Attempt → Ask → Type 0
-MayLack t (Get cell) = IsFalse (writes_to t.now.writes cell.0) × (note_of t.notes cell.0 ≡ None)
-MayLack t (Set cell value) = Unit {0}
-MayLack t Enter = length t.saved < deepest
-MayLack t (Hook phase token) = Unit {0}
-MayLack t (Later token) = Unit {0}
-MayLack t _ = ⊥
+unfoldable pub MayRunOut : Attempt → Ask → Type 0
+MayRunOut t (Get cell) = IsFalse (writes_to t.now.writes cell.0) × (note_of t.notes cell.0 ≡ None)
+MayRunOut t (Set cell value) = Unit {0}
+MayRunOut t Enter = length t.saved < deepest
+MayRunOut t (Hook phase token) = Unit {0}
+MayRunOut t (Later token) = Unit {0}
+MayRunOut t _ = ⊥
 
 -- A local move may come, over so many cells and under this limit of the clock. A caller makes as many attempts as the settings allow.
 unfoldable pub May : (size limit : ℕ) → Attempt → Move → Type 0
 May size limit t (Takes ask) = AwaitsAsk t × MayAsk size t ask
-May size limit t (Lacks ask) = AwaitsAsk t × (cause_at t.stage ≡ None) × MayAsk size t ask × MayLack t ask
+May size limit t (OutOfMemory ask) = AwaitsAsk t × (cause_at t.stage ≡ None) × MayAsk size t ask × MayRunOut t ask
 May size limit t Does = 0 < length t.due
 May size limit t EndsLate = AwaitsAsk t × (0 < t.turn)
 May size limit t (Begins settings) =

@@ -15,7 +15,7 @@ use Rattle.stm_model.specs.declared.ending.Ending.{Ending}
 use Rattle.stm_model.specs.declared.ending.Ending.TheVariants.{Committed, Read, Rolled}
 use Rattle.stm_model.specs.declared.note.Note.{Note}
 use Rattle.stm_model.specs.After.{note_of, same_but_pending}
-use Rattle.stm_model.specs.Attempt.{Attempt, Stage, Write, Announce, Begin, FirstLook, Renew, Extend, Fetch, SecondLook, Acquire, Own, SeeOwner, SeeAgain, DoomOwner, GiveBack, Mark, Prepare, Sample, Check, Decide, StoreValues, Release, RollBack, Close, Ended, cause_at, holds, marks, stamp_of, unstored_at}
+use Rattle.stm_model.specs.Attempt.{Attempt, Stage, Write, Announce, Begin, ReadMeta, ExtendClock, ExtendNote, ReadValue, Validate, AcquireMeta, Acquire, OwnerStatus, OwnerMeta, DoomOwner, ReleaseLevel, Mark, Prepare, CommitClock, CommitNote, Decide, StoreValues, Release, RollBack, Close, Ended, cause_at, holds, marks, stamp_of, unstored_at}
 use Rattle.stm_model.specs.CellsState.{Book, empty_book}
 use Rattle.stm_model.specs.Evidence.{Evidence}
 use Rattle.stm_model.specs.Heap.{Agrees, AreWords, writes_to}
@@ -135,26 +135,26 @@ pub record IsBlank (t : Attempt) : Type 0 where
 unfoldable pub SafeStage : Terms → World → Attempt → Stage → Type 0
 SafeStage terms w t Announce = IsBlank t
 SafeStage terms w t Begin = IsBlank t
-SafeStage terms w t (FirstLook cell left) = IsToRead terms t cell
-SafeStage terms w t (Renew cell left first) = IsToRead terms t cell × WasSeen w t cell first
-SafeStage terms w t (Extend cell left first clock note behind) =
+SafeStage terms w t (ReadMeta cell left) = IsToRead terms t cell
+SafeStage terms w t (ExtendClock cell left first) = IsToRead terms t cell × WasSeen w t cell first
+SafeStage terms w t (ExtendNote cell left first clock note behind) =
     IsToRead terms t cell × WasSeen w t cell first × (first.version ≤ clock) × WasSampled w t clock (note ∷ behind)
-SafeStage terms w t (Fetch cell left first) = IsToRead terms t cell × WasSeen w t cell first × (first.version ≤ t.prefix)
-SafeStage terms w t (SecondLook cell left first value) =
+SafeStage terms w t (ReadValue cell left first) = IsToRead terms t cell × WasSeen w t cell first × (first.version ≤ t.prefix)
+SafeStage terms w t (Validate cell left first value) =
     IsToRead terms t cell × WasSeen w t cell first × (first.version ≤ t.prefix) × WasFetched terms w cell first.version value
-SafeStage terms w t (Acquire cell value left tried) = IsToWrite terms t cell value
-SafeStage terms w t (SeeOwner cell value left first) = IsToWrite terms t cell value × WasTaken terms w t cell first
-SafeStage terms w t (SeeAgain cell value left first status) =
+SafeStage terms w t (AcquireMeta cell value left tried) = IsToWrite terms t cell value
+SafeStage terms w t (OwnerStatus cell value left first) = IsToWrite terms t cell value × WasTaken terms w t cell first
+SafeStage terms w t (OwnerMeta cell value left first status) =
     IsToWrite terms t cell value × WasTaken terms w t cell first × (status.phase ≡ Active)
 SafeStage terms w t (DoomOwner cell value left first second status) =
     IsToWrite terms t cell value × WasTaken terms w t cell first × WasTaken terms w t cell second × (second.owner ≡ first.owner) × (status.phase ≡ Active)
-SafeStage terms w t (Own cell value left tried first expected again) =
+SafeStage terms w t (Acquire cell value left tried first expected again) =
     IsToWrite terms t cell value × WasFound terms w cell expected × IsFree first expected again
-SafeStage terms w t (GiveBack kept write behind) = GivesBack t kept (write ∷ behind)
+SafeStage terms w t (ReleaseLevel kept write behind) = GivesBack t kept (write ∷ behind)
 SafeStage terms w t Prepare = 0 < length t.now.writes
 SafeStage terms w t (Mark write behind) = EndsWith t.now.writes (write ∷ behind)
-SafeStage terms w t (Sample lost) = 0 < length t.now.writes
-SafeStage terms w t (Check lost clock note behind) = (0 < length t.now.writes) × WasSampled w t clock (note ∷ behind)
+SafeStage terms w t (CommitClock lost) = 0 < length t.now.writes
+SafeStage terms w t (CommitNote lost clock note behind) = (0 < length t.now.writes) × WasSampled w t clock (note ∷ behind)
 SafeStage terms w t (Decide lost clock) = (0 < length t.now.writes) × WasSampled w t clock [] × (clock < terms.limit)
 SafeStage terms w t (StoreValues write behind) = EndsWith t.now.writes (write ∷ behind)
 SafeStage terms w t (Release write behind) = EndsWith t.now.writes (write ∷ behind)
@@ -172,8 +172,8 @@ unfoldable pub PhaseAt : Stage → Option Ending → Phase → Type 0
 PhaseAt Announce ending phase = phase ≡ Idle
 PhaseAt Ended ending phase = phase ≡ Idle
 PhaseAt (Mark write behind) ending phase = phase ≡ Preparing
-PhaseAt (Sample lost) ending phase = phase ≡ Preparing
-PhaseAt (Check lost clock note behind) ending phase = phase ≡ Preparing
+PhaseAt (CommitClock lost) ending phase = phase ≡ Preparing
+PhaseAt (CommitNote lost clock note behind) ending phase = phase ≡ Preparing
 PhaseAt (Decide lost clock) ending phase = phase ≡ Preparing
 PhaseAt (StoreValues write behind) ending phase = phase ≡ Preparing
 PhaseAt (Release write behind) ending phase = phase ≡ Preparing

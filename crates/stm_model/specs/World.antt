@@ -8,7 +8,7 @@ use Rattle.meta_word.specs.declared.status.TxnStatus.{TxnStatus}
 use Rattle.stm_model.specs.declared.access.Word.{Word}
 use Rattle.stm_model.specs.declared.access.Word.TheVariants.{Clock, Status, Meta as MetaOf, Value}
 use Rattle.stm_model.specs.declared.settings.Settings.{Settings}
-use Rattle.stm_model.specs.Accesses.{Act, Answer, ClearOwner, LoadClock, LoadMeta, LoadStatus, LoadValue, Number, OfMeta, OfStatus, SetChanging, SetPending, StoreStatus, StoreValue, SwapMeta, TakeClock, TakeMeta, TakeStatus, next, released}
+use Rattle.stm_model.specs.Accesses.{Act, Answer, ClearOwner, LoadClock, LoadMeta, LoadStatus, LoadValue, Number, OfMeta, OfStatus, SetChanging, SetPending, StoreStatus, StoreValue, SwapMeta, ExchangeClock, ExchangeMeta, ExchangeStatus, next, released}
 use Rattle.stm_model.specs.After.{after, same_meta, same_status}
 use Rattle.stm_model.specs.Attempt.{Announce, Attempt, Ended, Stage, no_attempt}
 use Rattle.stm_model.specs.History.{Entry}
@@ -67,12 +67,12 @@ entry_of t = record { caller = t.own; serial = t.serial; reads = t.notes; writes
 -- what an access finds
 unfoldable pub found : World → Act → Answer
 found w LoadClock = Number w.clock
-found w (TakeClock old) = Number w.clock
+found w (ExchangeClock old) = Number w.clock
 found w (LoadStatus p) = OfStatus (w.status p)
 found w (StoreStatus p new) = OfStatus (w.status p)
-found w (TakeStatus p old new) = OfStatus (w.status p)
+found w (ExchangeStatus p old new) = OfStatus (w.status p)
 found w (LoadMeta cell) = OfMeta (w.meta cell)
-found w (TakeMeta cell old new) = OfMeta (w.meta cell)
+found w (ExchangeMeta cell old new) = OfMeta (w.meta cell)
 found w (SetChanging cell) = OfMeta (w.meta cell)
 found w (SetPending cell) = OfMeta (w.meta cell)
 found w (ClearOwner cell) = OfMeta (w.meta cell)
@@ -82,11 +82,11 @@ found w (StoreValue cell value) = Number (w.value cell)
 
 -- The words after an access. Who exchanges the clock leaves its entry.
 unfoldable pub words_after : World → Attempt → Act → World
-words_after w t (TakeClock old) =
+words_after w t (ExchangeClock old) =
     if nat_eq w.clock old then record w { clock = suc old; history = w.history ++ entry_of t ∷ [] } else w
 words_after w t (StoreStatus p new) = with_status w p new
-words_after w t (TakeStatus p old new) = if same_status (w.status p) old then with_status w p new else w
-words_after w t (TakeMeta cell old new) = if same_meta (w.meta cell) old then with_meta w cell new else w
+words_after w t (ExchangeStatus p old new) = if same_status (w.status p) old then with_status w p new else w
+words_after w t (ExchangeMeta cell old new) = if same_meta (w.meta cell) old then with_meta w cell new else w
 words_after w t (SetChanging cell) = with_meta w cell (record (w.meta cell) { changing = true })
 words_after w t (SetPending cell) = with_meta w cell (record (w.meta cell) { pending = true })
 words_after w t (ClearOwner cell) = with_meta w cell (record (w.meta cell) { changing = false; owner = 0 })
@@ -99,7 +99,7 @@ words_after w t _ = w
 -- Who loads the clock, or exchanges it, has seen all entries that it counts.
 unfoldable pub seen_after : World → View → Act → ℕ
 seen_after w view LoadClock = w.clock
-seen_after w view (TakeClock old) = if nat_eq w.clock old then suc old else view.seen
+seen_after w view (ExchangeClock old) = if nat_eq w.clock old then suc old else view.seen
 seen_after w view _ = view.seen
 
 -- the clock as the caller's attempts loaded it last
@@ -178,7 +178,7 @@ MayHappen terms w (Waits p cell) = IsCaller terms p × ((attempt_of w p).stage �
 -- Who wins the exchange of the clock has to meet what is owed.
 unfoldable pub MeetsOwed : (List ℕ → Type 0) → (List ℕ → List ℕ → Type 0) → Terms → World → Event → Type 0
 MeetsOwed lawful may terms w (Steps p) =
-    next (attempt_of w p) ≡ Some (TakeClock w.clock) → Owes lawful may (cells_in terms) (attempt_of w p).notes (attempt_of w p).now.writes
+    next (attempt_of w p) ≡ Some (ExchangeClock w.clock) → Owes lawful may (cells_in terms) (attempt_of w p).notes (attempt_of w p).now.writes
 MeetsOwed lawful may terms w event = Unit {0}
 
 -- the world after several events

@@ -10,9 +10,9 @@ ghost use Rattle.stm_model.specs.declared.cause.Cause.{Cause};
 ghost use Rattle.stm_model.specs.declared.cause.HookPhase.{HookPhase};
 ghost use Rattle.stm_model.specs.declared.access.Ask.{Ask};
 ghost use Rattle.stm_model.specs.Accesses.{Answer, addr_of, next};
-ghost use Rattle.stm_model.specs.After.{after, answer_with, give_back_on, looked_twice, note_of, owning, ring_if, rolled, run_all, same_meta};
+ghost use Rattle.stm_model.specs.After.{after, answer_with, release_level_on, validated, note_of, exchanged, ring_if, rolled, run_all, same_meta};
 ghost use Rattle.stm_model.specs.Attempt.{Attempt, Ended, Ready, cause_at, cells_of};
-ghost use Rattle.stm_model.specs.CellsState.{Book, empty_book, delayed, entered, hooked, kept, undone, written};
+ghost use Rattle.stm_model.specs.CellsState.{Book, empty_book, late_registered, entered, hooked, kept, undone, written};
 ghost use Rattle.stm_model.specs.Handlers.{Handlers};
 ghost use Rattle.stm_model.specs.Heap.{writes_to};
 ghost use Rattle.stm_model.specs.Moves.{AwaitsAskAt, Does, EndsLate, IsCall, Takes, moved, moved_on};
@@ -47,7 +47,7 @@ pub fn asks_are_calls_of_cells()
     ensures hook { (size : ℕ) (t : Attempt) (phase : HookPhase) (token : ℕ) → AwaitsAskAt t.stage → cause_at t.stage ≡ None →
         cells_of size (moved t (Takes (Hook phase token))) ≡ hooked phase token (cells_of size t) }
     ensures later { (size : ℕ) (t : Attempt) (token : ℕ) → AwaitsAskAt t.stage → cause_at t.stage ≡ None →
-        cells_of size (moved t (Takes (Later token))) ≡ delayed token (cells_of size t) }
+        cells_of size (moved t (Takes (Later token))) ≡ late_registered token (cells_of size t) }
 {}
 
 /// A first read that ends well makes one note more and tells the value, and a first write that ends
@@ -55,13 +55,13 @@ pub fn asks_are_calls_of_cells()
 pub fn what_ends_well_is_noted_or_written()
     ensures noted { (size : ℕ) (t : Attempt) (cell left : ℕ) (first : Meta) (value : ℕ) (second : Meta) → cause_at t.stage ≡ None →
         IsTrue (still_has t.own first.version second) →
-        cells_of size (looked_twice t cell left first value second) ≡
+        cells_of size (validated t cell left first value second) ≡
         record (cells_of size t) { reads = t.notes ++ record { addr = addr_of cell; version = first.version; value = value } ∷ [] } }
     ensures told { (t : Attempt) (cell left : ℕ) (first : Meta) (value : ℕ) (second : Meta) →
-        IsTrue (still_has t.own first.version second) → (looked_twice t cell left first value second).stage ≡ Ready (Some value) }
+        IsTrue (still_has t.own first.version second) → (validated t cell left first value second).stage ≡ Ready (Some value) }
     ensures written { (size : ℕ) (t : Attempt) (cell value left : ℕ) (tried : Bool) (first expected : Meta) (again : Bool) (found : Meta) →
         cause_at t.stage ≡ None → IsTrue (same_meta found expected) →
-        cells_of size (owning t cell value left tried first expected again found) ≡ written cell value (cells_of size t) }
+        cells_of size (exchanged t cell value left tried first expected again found) ≡ written cell value (cells_of size t) }
 {}
 
 /// Once the cells of a level are given back and its handlers have run, the level is undone. It may be
@@ -72,7 +72,7 @@ pub fn a_level_given_back_is_undone()
         record (cells_of size t) { now = record t.now { runs = t.now.runs ++ hooks } } }
     ensures undone { (size : ℕ) (t : Attempt) (kept : List (ℕ × ℕ)) (pending : Bool) (cell : ℕ) →
         t.due ≡ ring_if pending cell → 0 < length t.saved → cause_at t.stage ≡ None →
-        cells_of size (moved_on (give_back_on t kept []) (replicate (length (give_back_on t kept []).due) Does)) ≡
+        cells_of size (moved_on (release_level_on t kept []) (replicate (length (release_level_on t kept []).due) Does)) ≡
         undone (cells_of size t) }
 {}
 

@@ -1,6 +1,6 @@
 //! What a body sees of the cells: reads and writes in nested levels, handlers, and bodies for later.
 ghost use Rattle.std.specs.Prelude.{◌≡◌, ◌<◌, ◌≤◌, ℕ, length, IfSome, MatchResult};
-ghost use Rattle.stm_model.specs.CellsState.{CellsState, delayed, hooked, kept, undone, written};
+ghost use Rattle.stm_model.specs.CellsState.{CellsState, late_registered, hooked, kept, undone, written};
 ghost use Rattle.stm_model.specs.Refusing.{IsOfCells, RefusesLevel, RefusesRead, RefusesRegistration, RefusesWrite, deepest};
 ghost use Rattle.stm_model.specs.Telling.{Does, Enters, Got, Leads, Refused, Witness};
 
@@ -59,7 +59,7 @@ pub trait Cells<L: Law> {
     /// Registers a body that runs before the commit, by its token.
     fn later(&mut self, token: u64) -> Result<(), Cause>
         ensures { MatchResult result
-            (λ _. Leads law follows state self.old self.new (Does (delayed token)))
+            (λ _. Leads law follows state self.old self.new (Does (late_registered token)))
             (λ cause. Leads law follows state self.old self.new (Refused RefusesRegistration cause)) };
 
     ghost follows_refl: { (cells : Self) → follows cells cells };

@@ -5,8 +5,8 @@ use Rattle.meta_word.specs.declared.status.Phase.TheVariants.{Preparing}
 use Rattle.opacity.proofs.Places.{attempt_here}
 use Rattle.stm_core.specs.Machine.{next_of}
 use Rattle.stm_model.specs.Accesses.{Act, Answer, Number, OfMeta, OfStatus, active, next, next_at, unless_due}
-use Rattle.stm_model.specs.After.{after_at, check_on, checked, decided, mark_on, prepared, release_on, ring_if, roll_on, rolled, run_all, same_status, store_on}
-use Rattle.stm_model.specs.Attempt.{Attempt, Due, Run, Ring, Stage, Write, Announce, Begin, Ready, Late, Stopped, FirstLook, Renew, Extend, Fetch, SecondLook, Acquire, Own, SeeOwner, SeeAgain, DoomOwner, GiveBack, Prepare, Mark, Sample, Check, Decide, StoreValues, Release, RollBack, Close, Ended}
+use Rattle.stm_model.specs.After.{after_at, validate_on, note_validated, decided, mark_on, prepared, release_on, ring_if, roll_on, rolled, run_all, same_status, store_on}
+use Rattle.stm_model.specs.Attempt.{Attempt, Due, Run, Ring, Stage, Write, Announce, Begin, Ready, Late, Stopped, ReadMeta, ExtendClock, ExtendNote, ReadValue, Validate, AcquireMeta, Acquire, OwnerStatus, OwnerMeta, DoomOwner, ReleaseLevel, Prepare, Mark, CommitClock, CommitNote, Decide, StoreValues, Release, RollBack, Close, Ended}
 use Rattle.stm_model.specs.Handlers.{committing, preparing}
 use Rattle.stm_model.specs.Moves.{AwaitsAsk, AwaitsAskAt, Does, Takes, asked_at, asked_going, asked_stopped, conclude, did_first, moved, turn_to}
 use Rattle.stm_model.specs.World.{World, attempt_of, step, step_by, view_after, words_after}
@@ -14,7 +14,7 @@ use Rattle.stm_model.specs.declared.access.Ask.TheVariants.{Finish}
 use Rattle.stm_model.specs.declared.cause.Cause.{Cause}
 use Rattle.stm_model.specs.declared.ending.Ending.TheVariants.{Committed, Rolled}
 use Rattle.stm_model.specs.declared.note.Note.{Note}
-use Rattle.world_run.specs.Company.{IsFlat, replies}
+use Rattle.world_run.specs.Simulation.{IsFlat, replies}
 use Rattle.world_run.specs.Run.{IsClosing}
 use Rattle.world_run.proofs.Nexts.{is_quiet}
 
@@ -48,8 +48,8 @@ roll_closing t (write ∷ behind) = tt
 rolled_closing : (t : Attempt) (cause : Cause) → Closing (rolled t cause)
 rolled_closing t cause = roll_closing (record t { ending = Some (Rolled cause t.prefix) }) t.now.writes
 
-check_closing : (t : Attempt) (lost clock : ℕ) (behind : List Note) → Closing (check_on t lost clock behind)
-unfolding check_on IsClosing
+check_closing : (t : Attempt) (lost clock : ℕ) (behind : List Note) → Closing (validate_on t lost clock behind)
+unfolding validate_on IsClosing
 check_closing t lost clock [] = if_closing (nat_eq clock t.settings.clock) _ _ (rolled_closing (record t { prefix = clock }) _) tt
 check_closing t lost clock (note ∷ behind) = tt
 
@@ -60,12 +60,12 @@ decided_closing t lost clock found =
     (if_closing (nat_lt lost t.settings.tries) _ _ tt (rolled_closing t _))
 
 after_closing : (t : Attempt) (stage : Stage) (answer : Answer) → t.stage ≡ stage → IsClosing stage → Closing (after_at t stage answer)
-unfolding after_at IsClosing checked prepared
+unfolding after_at IsClosing note_validated prepared
 after_closing t Prepare (OfStatus found) is closing =
     if_closing (same_status found (active t.serial)) _ _ (mark_closing (record t { phase = Preparing; due = run_all (preparing t.now.hooks) }) t.now.writes) (rolled_closing t _)
 after_closing t (Mark write behind) (OfMeta found) is closing = mark_closing t behind
-after_closing t (Sample lost) (Number clock) is closing = check_closing t lost clock t.notes
-after_closing t (Check lost clock note behind) (OfMeta found) is closing =
+after_closing t (CommitClock lost) (Number clock) is closing = check_closing t lost clock t.notes
+after_closing t (CommitNote lost clock note behind) (OfMeta found) is closing =
     if_closing (still_has t.own note.version found) _ _ (check_closing t lost clock behind) (rolled_closing t _)
 after_closing t (Decide lost clock) (Number found) is closing = decided_closing t lost clock found
 after_closing t (StoreValues write behind) (Number found) is closing = store_closing t behind
@@ -74,17 +74,17 @@ after_closing t (RollBack write behind) (OfMeta found) is closing = roll_closing
 after_closing t Close (OfStatus found) is closing = tt
 after_closing t Announce answer is closing = absurd closing
 after_closing t Begin answer is closing = absurd closing
-after_closing t (FirstLook cell left) answer is closing = absurd closing
-after_closing t (Renew cell left first) answer is closing = absurd closing
-after_closing t (Extend cell left first clock note behind) answer is closing = absurd closing
-after_closing t (Fetch cell left first) answer is closing = absurd closing
-after_closing t (SecondLook cell left first value) answer is closing = absurd closing
-after_closing t (Acquire cell value left tried) answer is closing = absurd closing
-after_closing t (Own cell value left tried first expected again) answer is closing = absurd closing
-after_closing t (SeeOwner cell value left first) answer is closing = absurd closing
-after_closing t (SeeAgain cell value left first status) answer is closing = absurd closing
+after_closing t (ReadMeta cell left) answer is closing = absurd closing
+after_closing t (ExtendClock cell left first) answer is closing = absurd closing
+after_closing t (ExtendNote cell left first clock note behind) answer is closing = absurd closing
+after_closing t (ReadValue cell left first) answer is closing = absurd closing
+after_closing t (Validate cell left first value) answer is closing = absurd closing
+after_closing t (AcquireMeta cell value left tried) answer is closing = absurd closing
+after_closing t (Acquire cell value left tried first expected again) answer is closing = absurd closing
+after_closing t (OwnerStatus cell value left first) answer is closing = absurd closing
+after_closing t (OwnerMeta cell value left first status) answer is closing = absurd closing
 after_closing t (DoomOwner cell value left first second status) answer is closing = absurd closing
-after_closing t (GiveBack kept write behind) answer is closing = absurd closing
+after_closing t (ReleaseLevel kept write behind) answer is closing = absurd closing
 after_closing t stage answer is closing = rw is closing
 
 pub closing_step : (w : World) (p : ℕ) → IsClosing (attempt_of w p).stage → IsClosing (attempt_of (step w p) p).stage

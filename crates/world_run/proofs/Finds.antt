@@ -9,15 +9,15 @@ use Rattle.op_commit.specs.Acquire as first_write
 use Rattle.op_commit.specs.Commit as commit
 use Rattle.op_commit.specs.declared.acquire.AcquireOp.{AcquireOp}
 use Rattle.op_commit.specs.declared.acquire.AcquirePlace.{AcquirePlace}
-use Rattle.op_commit.specs.declared.acquire.AcquirePlace.TheVariants.{DoomOwner as AtDoomOwner, Ended as AtEnd, Exchange as AtExchange, FirstLook as AtFirstLook, SeeAgain as AtSeeAgain, SeeOwner as AtSeeOwner}
+use Rattle.op_commit.specs.declared.acquire.AcquirePlace.TheVariants as at_acquire
 use Rattle.op_commit.specs.declared.commit.CommitOp.{CommitOp}
 use Rattle.op_commit.specs.declared.commit.CommitPlace.{CommitPlace}
-use Rattle.op_commit.specs.declared.commit.CommitPlace.TheVariants.{Decide as AtDecide, Prepare as AtPrepare}
+use Rattle.op_commit.specs.declared.commit.CommitPlace.TheVariants as at_commit
 use Rattle.opacity.proofs.Acquires.{not_own}
 use Rattle.opacity.proofs.Fits.{IsOpen, phase_is, stage_is}
 use Rattle.opacity.proofs.Touch.{free_quiet}
-use Rattle.stm_model.specs.Accesses.{Act, LoadMeta, Number, OfMeta, OfStatus, TakeClock, TakeMeta, TakeStatus, active, answer_of, next, next_at, owned, unless_due}
-use Rattle.stm_model.specs.Attempt.{Acquire, Attempt, Decide, DoomOwner, Due, Own, Prepare, SeeAgain, SeeOwner, Stage}
+use Rattle.stm_model.specs.Accesses.{Act, LoadMeta, Number, OfMeta, OfStatus, ExchangeClock, ExchangeMeta, ExchangeStatus, active, answer_of, next, next_at, owned, unless_due}
+use Rattle.stm_model.specs.Attempt.{AcquireMeta, Attempt, Decide, DoomOwner, Due, Acquire, Prepare, OwnerMeta, OwnerStatus, Stage}
 use Rattle.stm_model.specs.Safe.{IsToWrite, PhaseAt, Safe, SafeAttempt, SafeStage, SerialAt}
 use Rattle.stm_model.specs.World.{IsCaller, Terms, World, attempt_of, found}
 
@@ -51,17 +51,17 @@ module _ (w : World) (t : Attempt) (act : Act) (answer : ℕ) (makes : next t �
   unfolding found answer_of
   loads_meta stage is cell one = of_meta (w.meta cell) (meta_of answer) (finds_at stage is (LoadMeta cell) one)
 
-  takes_meta : (stage : Stage) → t.stage ≡ stage → (cell : ℕ) (old new : Meta) → next_at t stage ≡ Some (TakeMeta cell old new) → w.meta cell ≡ meta_of answer
+  takes_meta : (stage : Stage) → t.stage ≡ stage → (cell : ℕ) (old new : Meta) → next_at t stage ≡ Some (ExchangeMeta cell old new) → w.meta cell ≡ meta_of answer
   unfolding found answer_of
-  takes_meta stage is cell old new one = of_meta (w.meta cell) (meta_of answer) (finds_at stage is (TakeMeta cell old new) one)
+  takes_meta stage is cell old new one = of_meta (w.meta cell) (meta_of answer) (finds_at stage is (ExchangeMeta cell old new) one)
 
-  takes_status : (stage : Stage) → t.stage ≡ stage → (p : ℕ) (old new : TxnStatus) → next_at t stage ≡ Some (TakeStatus p old new) → w.status p ≡ status_of answer
+  takes_status : (stage : Stage) → t.stage ≡ stage → (p : ℕ) (old new : TxnStatus) → next_at t stage ≡ Some (ExchangeStatus p old new) → w.status p ≡ status_of answer
   unfolding found answer_of
-  takes_status stage is p old new one = of_status (w.status p) (status_of answer) (finds_at stage is (TakeStatus p old new) one)
+  takes_status stage is p old new one = of_status (w.status p) (status_of answer) (finds_at stage is (ExchangeStatus p old new) one)
 
-  takes_clock : (stage : Stage) → t.stage ≡ stage → (old : ℕ) → next_at t stage ≡ Some (TakeClock old) → w.clock ≡ answer
+  takes_clock : (stage : Stage) → t.stage ≡ stage → (old : ℕ) → next_at t stage ≡ Some (ExchangeClock old) → w.clock ≡ answer
   unfolding found answer_of
-  takes_clock stage is old one = of_number w.clock answer (finds_at stage is (TakeClock old) one)
+  takes_clock stage is old one = of_number w.clock answer (finds_at stage is (ExchangeClock old) one)
 
 -- ---- which attempt it is
 
@@ -92,36 +92,36 @@ module _ (lawful : List ℕ → Type 0) (may : List ℕ → List ℕ → Type 0)
   module _ (op : AcquireOp) (value : ℕ) (t : Attempt) (made : first_write.IsAcquiring op t) where
     pub first_write_knows : (place : AcquirePlace) → u ≡ first_write.acquiring_at op value t place → first_write.KnowsAt place op.own
     unfolding SafeStage
-    first_write_knows AtFirstLook stands = tt
-    first_write_knows (AtExchange first expected again) stands =
-        (stage_is terms w p (Own op.addr.0 value (first_write.rounds_left op) op.doom_tried first expected again) own (stage_at u _ stands)).2
-    first_write_knows (AtSeeOwner first) stands =
-        let there = stage_is terms w p (SeeOwner op.addr.0 value (first_write.rounds_left op) first) own (stage_at u _ stands) in
+    first_write_knows at_acquire.AcquireMeta stands = tt
+    first_write_knows (at_acquire.Acquire first expected again) stands =
+        (stage_is terms w p (Acquire op.addr.0 value (first_write.rounds_left op) op.doom_tried first expected again) own (stage_at u _ stands)).2
+    first_write_knows (at_acquire.OwnerStatus first) stands =
+        let there = stage_is terms w p (OwnerStatus op.addr.0 value (first_write.rounds_left op) first) own (stage_at u _ stands) in
         another_is u.own op.own first (own_at u _ stands ∙ made.own) there.1.another
-    first_write_knows (AtSeeAgain first status) stands =
-        let there = stage_is terms w p (SeeAgain op.addr.0 value (first_write.rounds_left op) first status) own (stage_at u _ stands) in
+    first_write_knows (at_acquire.OwnerMeta first status) stands =
+        let there = stage_is terms w p (OwnerMeta op.addr.0 value (first_write.rounds_left op) first status) own (stage_at u _ stands) in
         another_is u.own op.own first (own_at u _ stands ∙ made.own) there.1.another
-    first_write_knows (AtDoomOwner first second status) stands =
+    first_write_knows (at_acquire.DoomOwner first second status) stands =
         let there = stage_is terms w p (DoomOwner op.addr.0 value (first_write.rounds_left op) first second status) own (stage_at u _ stands) in
         (another_is u.own op.own first (own_at u _ stands ∙ made.own) there.1.another, another_is u.own op.own second (own_at u _ stands ∙ made.own) there.2.another)
-    first_write_knows (AtEnd end) stands = tt
+    first_write_knows (at_acquire.Ended end) stands = tt
 
     module _ (act : Act) (answer : ℕ) (makes : next u ≡ Some act) (finds : found w act ≡ answer_of act answer) where
       pub first_write_finds : (place : AcquirePlace) → u ≡ first_write.acquiring_at op value t place → first_write.IsOfSafeWorld place op.own answer
       unfolding SafeStage next_at
-      first_write_finds AtFirstLook stands =
-          let stage = Acquire op.addr.0 value (first_write.rounds_left op) op.doom_tried in
+      first_write_finds at_acquire.AcquireMeta stands =
+          let stage = AcquireMeta op.addr.0 value (first_write.rounds_left op) op.doom_tried in
           let is : u.stage ≡ stage = stage_at u _ stands in
           of_safe_cell stage tt is op.addr.0 value op.own (stage_is terms w p stage own is) (own_at u _ stands ∙ made.own) (meta_of answer)
           (loads_meta w u act answer makes finds stage is op.addr.0 refl)
-      first_write_finds (AtExchange first expected again) stands =
-          let stage = Own op.addr.0 value (first_write.rounds_left op) op.doom_tried first expected again in
+      first_write_finds (at_acquire.Acquire first expected again) stands =
+          let stage = Acquire op.addr.0 value (first_write.rounds_left op) op.doom_tried first expected again in
           let is : u.stage ≡ stage = stage_at u _ stands in
           let there = stage_is terms w p stage own is in
           let word : w.meta op.addr.0 ≡ meta_of answer = takes_meta w u act answer makes finds stage is op.addr.0 expected (owned u.own expected) refl in
           (of_safe_cell stage tt is op.addr.0 value op.own there.0 (own_at u _ stands ∙ made.own) (meta_of answer) word, rw (← word) there.1.pending)
-      first_write_finds (AtSeeAgain first status) stands =
-          let stage = SeeAgain op.addr.0 value (first_write.rounds_left op) first status in
+      first_write_finds (at_acquire.OwnerMeta first status) stands =
+          let stage = OwnerMeta op.addr.0 value (first_write.rounds_left op) first status in
           let is : u.stage ≡ stage = stage_at u _ stands in
           of_safe_cell stage tt is op.addr.0 value op.own (stage_is terms w p stage own is).0 (own_at u _ stands ∙ made.own) (meta_of answer)
           (loads_meta w u act answer makes finds stage is op.addr.0 refl)
@@ -146,12 +146,12 @@ module _ (lawful : List ℕ → Type 0) (may : List ℕ → List ℕ → Type 0)
 
     pub commit_finds : (place : CommitPlace) → u ≡ commit.committing_at place op.writes t → commit.IsOfSafeWorld place op.serial answer
     unfolding SafeStage next_at
-    commit_finds AtPrepare stands =
+    commit_finds at_commit.Prepare stands =
         let is : u.stage ≡ Prepare = stage_at u _ stands in
         let word : w.status u.own ≡ status_of answer = takes_status w u act answer makes finds Prepare is u.own (active u.serial) _ refl in
         let mine : w.status p ≡ status_of answer = rw own.own at word in
         rw (← mine) (own_status is (ap (λ (v : Attempt). v.serial) stands ∙ made.serial))
-    commit_finds (AtDecide lost clock) stands =
+    commit_finds (at_commit.Decide lost clock) stands =
         let stage = Decide lost clock in
         let is : u.stage ≡ stage = stage_at u _ stands in
         let there = stage_is terms w p stage own is in

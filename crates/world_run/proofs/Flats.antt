@@ -8,19 +8,19 @@ use Rattle.meta_word.specs.declared.status.TxnStatus.{TxnStatus}
 use Rattle.stm_core.specs.Machine.{IsBuilt}
 use Rattle.stm_model.specs.Accesses.{Act, Answer, Number, OfMeta, OfStatus, active, answer_of, next_at, unless_due}
 use Rattle.meta_word.specs.Policy.{dooms}
-use Rattle.stm_model.specs.After.{acquired, acquiring, after_at, after_found, after_word, check_on, checked, decided, extend_on, extended, final_runs, give_back_on, is_active, look_again, looked, looked_twice, mark_on, note_of, owner_seen, owner_seen_again, owning, prepared, release_on, ring_if, roll_on, rolled, run_all, same_but_pending, same_meta, same_status, store_on, take_again}
-use Rattle.stm_model.specs.Attempt.{Attempt, Due, Run, Ring, Stage, Write, Announce, Begin, Ready, Late, Stopped, FirstLook, Renew, Extend, Fetch, SecondLook, Acquire, Own, SeeOwner, SeeAgain, DoomOwner, GiveBack, Prepare, Mark, Sample, Check, Decide, StoreValues, Release, RollBack, Close}
+use Rattle.stm_model.specs.After.{meta_acquired, acquiring, after_at, after_found, after_word, validate_on, note_validated, decided, extend_on, extended, final_runs, release_level_on, is_active, read_again, meta_read, validated, mark_on, note_of, owner_status_loaded, owner_validated, exchanged, prepared, release_on, ring_if, roll_on, rolled, run_all, same_but_pending, same_meta, same_status, store_on, acquire_again}
+use Rattle.stm_model.specs.Attempt.{Attempt, Due, Run, Ring, Stage, Write, Announce, Begin, Ready, Late, Stopped, ReadMeta, ExtendClock, ExtendNote, ReadValue, Validate, AcquireMeta, Acquire, OwnerStatus, OwnerMeta, DoomOwner, ReleaseLevel, Prepare, Mark, CommitClock, CommitNote, Decide, StoreValues, Release, RollBack, Close}
 use Rattle.stm_model.specs.CellsState.{Book, level_runs, outer, returned}
 use Rattle.stm_model.specs.Handlers.{Handlers, committing, preparing}
 use Rattle.stm_model.specs.Heap.{writes_to}
-use Rattle.stm_model.specs.Moves.{Does, Lacks, Takes, asked_at, asked_going, asked_stopped, conclude, did_first, moved, read_buffered, read_noted, turn_to}
+use Rattle.stm_model.specs.Moves.{Does, OutOfMemory, Takes, asked_at, asked_going, asked_stopped, conclude, did_first, moved, read_buffered, read_noted, turn_to}
 use Rattle.stm_model.specs.declared.access.Ask.{Ask}
 use Rattle.stm_model.specs.declared.access.Ask.TheVariants.{Abandon, Finish, Get, Set}
 use Rattle.stm_model.specs.declared.cause.Cause.{Cause}
 use Rattle.stm_model.specs.declared.ending.Ending.{Ending}
 use Rattle.stm_model.specs.declared.ending.Ending.TheVariants.{Committed, Read, Rolled}
 use Rattle.stm_model.specs.declared.note.Note.{Note}
-use Rattle.world_run.specs.Company.{IsFlat, UsesNone}
+use Rattle.world_run.specs.Simulation.{IsFlat, UsesNone}
 
 -- the same but for what is due
 dues_of : {turns : ℕ} {handlers : Handlers} {bodies : List ℕ} {levels : List Book} {dues : List Due} → UsesNone turns handlers bodies levels dues
@@ -70,21 +70,21 @@ roll_flat t (write ∷ behind) flat = flat
 rolled_flat : (t : Attempt) (cause : Cause) → IsFlat t → IsFlat (rolled t cause)
 rolled_flat t cause flat = roll_flat (record t { ending = Some (Rolled cause t.prefix) }) t.now.writes flat
 
-look_flat : (t : Attempt) (cell left : ℕ) (cause : Cause) → IsFlat t → IsFlat (look_again t cell left cause)
+look_flat : (t : Attempt) (cell left : ℕ) (cause : Cause) → IsFlat t → IsFlat (read_again t cell left cause)
 look_flat t cell zero cause flat = flat
 look_flat t cell (suc left) cause flat = flat
 
-take_flat : (t : Attempt) (cell value left : ℕ) (tried : Bool) (first latest : Meta) → IsFlat t → IsFlat (take_again t cell value left tried first latest)
+take_flat : (t : Attempt) (cell value left : ℕ) (tried : Bool) (first latest : Meta) → IsFlat t → IsFlat (acquire_again t cell value left tried first latest)
 take_flat t cell value zero tried first latest flat = flat
 take_flat t cell value (suc left) tried first latest flat = flat
 
-check_flat : (t : Attempt) (lost clock : ℕ) (behind : List Note) → IsFlat t → IsFlat (check_on t lost clock behind)
-unfolding check_on
+check_flat : (t : Attempt) (lost clock : ℕ) (behind : List Note) → IsFlat t → IsFlat (validate_on t lost clock behind)
+unfolding validate_on
 check_flat t lost clock [] flat = if_flat (nat_eq clock t.settings.clock) _ _ (rolled_flat (record t { prefix = clock }) _ flat) flat
 check_flat t lost clock (note ∷ behind) flat = flat
 
 -- No level is open, so none is undone.
-give_flat : (t : Attempt) (kept behind : List Write) → IsFlat t → IsFlat (give_back_on t kept behind)
+give_flat : (t : Attempt) (kept behind : List Write) → IsFlat t → IsFlat (release_level_on t kept behind)
 give_flat t kept [] flat = go t.saved refl
   where
     go : (levels : List Book) → t.saved ≡ levels
@@ -95,8 +95,8 @@ give_flat t kept (write ∷ behind) flat = flat
 
 -- ---- answers
 
-looked_flat : (t : Attempt) (cell left : ℕ) (first : Meta) → IsFlat t → IsFlat (looked t cell left first)
-unfolding looked
+looked_flat : (t : Attempt) (cell left : ℕ) (first : Meta) → IsFlat t → IsFlat (meta_read t cell left first)
+unfolding meta_read
 looked_flat t cell left first flat =
     if_flat (changing_by_another t.own first) _ _ (look_flat t cell left _ flat) (if_flat (nat_lt t.prefix first.version) _ _ flat flat)
 
@@ -107,14 +107,14 @@ acquiring_flat t cell value left tried first flat =
     (if_flat (dooms t.settings.policy && not tried) _ _ flat (take_flat t cell value left tried first first flat))
     (if_flat (nat_eq first.owner 0) _ _ flat (take_flat t cell value left tried first first flat))
 
-acquired_flat : (t : Attempt) (cell value left : ℕ) (tried : Bool) (note : Option Note) (first : Meta) → IsFlat t → IsFlat (acquired t cell value left tried note first)
+acquired_flat : (t : Attempt) (cell value left : ℕ) (tried : Bool) (note : Option Note) (first : Meta) → IsFlat t → IsFlat (meta_acquired t cell value left tried note first)
 acquired_flat t cell value left tried None first flat = acquiring_flat t cell value left tried first flat
 acquired_flat t cell value left tried (Some note) first flat =
     if_flat (nat_eq note.version first.version) _ _ (acquiring_flat t cell value left tried first flat) flat
 
 owning_flat : (t : Attempt) (cell value left : ℕ) (tried : Bool) (first expected : Meta) (again : Bool) (found : Meta) → IsFlat t
-    → IsFlat (owning t cell value left tried first expected again found)
-unfolding owning
+    → IsFlat (exchanged t cell value left tried first expected again found)
+unfolding exchanged
 owning_flat t cell value left tried first expected again found flat =
     if_flat (same_meta found expected) _ _ flat
     (if_flat (not again && same_but_pending found expected) _ _ flat (take_flat t cell value left tried first found flat))
@@ -136,29 +136,29 @@ prepared_flat t found flat =
     (rolled_flat t _ flat)
 
 after_flat : (t : Attempt) (stage : Stage) (answer : Answer) → t.due ≡ [] → IsFlat t → IsFlat (after_at t stage answer)
-unfolding after_at extended looked_twice owner_seen owner_seen_again checked
+unfolding after_at extended validated owner_status_loaded owner_validated note_validated
 after_flat t Announce (OfStatus found) none flat = flat
 after_flat t Begin (Number clock) none flat = flat
-after_flat t (FirstLook cell left) (OfMeta found) none flat = looked_flat t cell left found flat
-after_flat t (Renew cell left first) (Number clock) none flat = extend_flat t cell left first clock t.notes flat
-after_flat t (Extend cell left first clock note behind) (OfMeta found) none flat =
+after_flat t (ReadMeta cell left) (OfMeta found) none flat = looked_flat t cell left found flat
+after_flat t (ExtendClock cell left first) (Number clock) none flat = extend_flat t cell left first clock t.notes flat
+after_flat t (ExtendNote cell left first clock note behind) (OfMeta found) none flat =
     if_flat (still_has t.own note.version found) _ _ (extend_flat t cell left first clock behind flat) flat
-after_flat t (Fetch cell left first) (Number value) none flat = flat
-after_flat t (SecondLook cell left first value) (OfMeta found) none flat =
+after_flat t (ReadValue cell left first) (Number value) none flat = flat
+after_flat t (Validate cell left first value) (OfMeta found) none flat =
     if_flat (still_has t.own first.version found) _ _ flat (look_flat t cell left _ flat)
-after_flat t (Acquire cell value left tried) (OfMeta found) none flat = acquired_flat t cell value left tried (note_of t.notes cell) found flat
-after_flat t (Own cell value left tried first expected again) (OfMeta found) none flat = owning_flat t cell value left tried first expected again found flat
-after_flat t (SeeOwner cell value left first) (OfStatus found) none flat =
+after_flat t (AcquireMeta cell value left tried) (OfMeta found) none flat = acquired_flat t cell value left tried (note_of t.notes cell) found flat
+after_flat t (Acquire cell value left tried first expected again) (OfMeta found) none flat = owning_flat t cell value left tried first expected again found flat
+after_flat t (OwnerStatus cell value left first) (OfStatus found) none flat =
     if_flat (is_active found.phase) _ _ flat (take_flat t cell value left true first first flat)
-after_flat t (SeeAgain cell value left first status) (OfMeta found) none flat =
+after_flat t (OwnerMeta cell value left first status) (OfMeta found) none flat =
     if_flat (nat_eq found.owner first.owner && not found.changing) _ _ flat (take_flat t cell value left true first found flat)
 after_flat t (DoomOwner cell value left first second status) (OfStatus found) none flat = take_flat t cell value left true first second flat
-after_flat t (GiveBack kept write behind) (OfMeta found) none flat =
+after_flat t (ReleaseLevel kept write behind) (OfMeta found) none flat =
     give_flat (record t { due = ring_if found.pending write.0 }) kept behind (dues_of flat _ (ring_few found.pending write.0))
 after_flat t Prepare (OfStatus found) none flat = prepared_flat t found flat
 after_flat t (Mark write behind) (OfMeta found) none flat = mark_flat t behind flat
-after_flat t (Sample lost) (Number clock) none flat = check_flat t lost clock t.notes flat
-after_flat t (Check lost clock note behind) (OfMeta found) none flat =
+after_flat t (CommitClock lost) (Number clock) none flat = check_flat t lost clock t.notes flat
+after_flat t (CommitNote lost clock note behind) (OfMeta found) none flat =
     if_flat (still_has t.own note.version found) _ _ (check_flat t lost clock behind flat) (rolled_flat t _ flat)
 after_flat t (Decide lost clock) (Number found) none flat = decided_flat t lost clock found flat
 after_flat t (StoreValues write behind) (Number found) none flat = store_flat t behind flat
@@ -237,6 +237,6 @@ pub flat_takes : (t : Attempt) (ask : Ask) → IsBuilt ask → IsFlat t → IsFl
 unfolding moved
 flat_takes t ask built flat = asked_flat t t.stage ask built flat
 
-pub flat_lacks : (t : Attempt) (ask : Ask) → IsFlat t → IsFlat (moved t (Lacks ask))
+pub flat_lacks : (t : Attempt) (ask : Ask) → IsFlat t → IsFlat (moved t (OutOfMemory ask))
 unfolding moved
 flat_lacks t ask flat = flat

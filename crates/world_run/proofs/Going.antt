@@ -8,11 +8,11 @@ use Rattle.opacity.specs.Effects.{caller_of}
 use Rattle.stm_core.specs.Machine.{IsSameAttempt}
 use Rattle.stm_model.specs.Attempt.{Attempt, Due, Ended}
 use Rattle.stm_model.specs.History.{Entry}
-use Rattle.stm_model.specs.Moves.{AwaitsAsk, Does, Lacks, May, MayLack, Move, Takes, moved}
+use Rattle.stm_model.specs.Moves.{AwaitsAsk, Does, OutOfMemory, May, MayRunOut, Move, Takes, moved}
 use Rattle.stm_model.specs.World.{Event, IsCaller, MayHappen, MayRun, Moves, Steps, Terms, World, attempt_of, cells_in, entry_of, happened, run, world_of}
 use Rattle.stm_model.specs.declared.access.Ask.{Ask}
 use Rattle.stm_model.specs.declared.access.Ask.TheVariants.{Finish}
-use Rattle.world_run.specs.Company.{Company, Happens, IsFlat, IsSameOf, Shows, attempt_in, terms_in, turn_of}
+use Rattle.world_run.specs.Simulation.{Simulation, Happens, IsFlat, IsSameOf, Shows, attempt_in, terms_in, turn_of}
 use Rattle.world_run.specs.Run.{GoesAlong, GoesOn, IsClosing, IsOf, LeadsTo, asks_in, asks_of}
 use Rattle.world_run.proofs.Closings.{closing_does, closing_step, closing_waits, finish_closing}
 
@@ -31,7 +31,7 @@ asks_more [] ys = refl
 asks_more (x ∷ xs) ys =
     ap (λ (asks : List Ask). asks_of x ++ asks) (asks_more xs ys) ∙ sym (append_assoc (asks_of x) (asks_in xs) (asks_in ys))
 
-pub same_terms : (before after : Company) → after.opening ≡ before.opening → after.settings ≡ before.settings → terms_in after ≡ terms_in before
+pub same_terms : (before after : Simulation) → after.opening ≡ before.opening → after.settings ≡ before.settings → terms_in after ≡ terms_in before
 same_terms before after opening settings = λ i. record { opening = opening i; callers = (settings i).callers; limit = (settings i).clock }
 
 -- ---- what it means to be the same
@@ -39,18 +39,18 @@ same_terms before after opening settings = λ i. record { opening = opening i; c
 same_attempt : (t u v : Attempt) → IsSameAttempt t u → IsSameAttempt u v → IsSameAttempt t v
 same_attempt t u v first second = record { own = second.own ∙ first.own; serial = second.serial ∙ first.serial; settings = second.settings ∙ first.settings }
 
-same_on : (p : ℕ) (a b c : Company) → IsSameOf p a b → IsSameOf p b c → IsSameOf p a c
+same_on : (p : ℕ) (a b c : Simulation) → IsSameOf p a b → IsSameOf p b c → IsSameOf p a c
 same_on p a b c first second = record {
   begun = λ some. second.begun (first.begun some);
   same = same_attempt (attempt_in a p) (attempt_in b p) (attempt_in c p) first.same second.same;
 }
 
-same_none : (p : ℕ) (c : Company) → IsSameOf p c c
+same_none : (p : ℕ) (c : Simulation) → IsSameOf p c c
 same_none p c = record { begun = λ some. some; same = record { own = refl; serial = refl; settings = refl } }
 
 -- ---- one after another
 
-pub leads_on : (a b c : Company) (p : ℕ) (xs ys : List Event) → LeadsTo a p xs b → LeadsTo b p ys c → LeadsTo a p (xs ++ ys) c
+pub leads_on : (a b c : Simulation) (p : ℕ) (xs ys : List Event) → LeadsTo a p xs b → LeadsTo b p ys c → LeadsTo a p (xs ++ ys) c
 leads_on a b c p xs ys first second = record {
   opening = second.opening ∙ first.opening;
   settings = second.settings ∙ first.settings;
@@ -60,10 +60,10 @@ leads_on a b c p xs ys first second = record {
   shows = λ w shows. subst (λ (v : World). Shows c v) (sym (run_more xs ys w)) (second.shows (run w xs) (first.shows w shows));
 }
 
-leads_none : (c : Company) (p : ℕ) → LeadsTo c p [] c
+leads_none : (c : Simulation) (p : ℕ) → LeadsTo c p [] c
 leads_none c p = record { opening = refl; settings = refl; own = All-nil (λ event. caller_of event ≡ p); may = λ w shows. tt; shows = λ w shows. shows }
 
-pub leads_by : (before after : Company) (p : ℕ) (event : Event) → caller_of event ≡ p → Happens before event after → LeadsTo before p (event ∷ []) after
+pub leads_by : (before after : Simulation) (p : ℕ) (event : Event) → caller_of event ≡ p → Happens before event after → LeadsTo before p (event ∷ []) after
 leads_by before after p event own happens = record {
   opening = happens.opening;
   settings = happens.settings;
@@ -72,7 +72,7 @@ leads_by before after p event own happens = record {
   shows = happens.shows;
 }
 
-pub goes_none : (c : Company) (p : ℕ) → GoesOn c p [] c
+pub goes_none : (c : Simulation) (p : ℕ) → GoesOn c p [] c
 goes_none c p = record {
   events = [];
   leads = leads_none c p;
@@ -84,7 +84,7 @@ goes_none c p = record {
   left = All-nil (IsOf (attempt_in c p));
 }
 
-pub goes_on : (a b c : Company) (p : ℕ) (xs ys : List Ask) → GoesOn a p xs b → GoesOn b p ys c → GoesOn a p (xs ++ ys) c
+pub goes_on : (a b c : Simulation) (p : ℕ) (xs ys : List Ask) → GoesOn a p xs b → GoesOn b p ys c → GoesOn a p (xs ++ ys) c
 goes_on a b c p xs ys first second = record {
   events = first.events ++ second.events;
   leads = leads_on a b c p first.events second.events first.leads second.leads;
@@ -100,11 +100,11 @@ goes_on a b c p xs ys first second = record {
 
 -- ---- what one event adds
 
-pub shown_history : (c : Company) (w : World) → Shows c w → w.history ≡ c.history
+pub shown_history : (c : Simulation) (w : World) → Shows c w → w.history ≡ c.history
 unfolding world_of
 shown_history c w shows = ap (λ (v : World). v.history) shows.words
 
-module _ (before after : Company) (p : ℕ) (event : Event) (w : World) (shows : Shows before w) (caller : IsCaller (terms_in before) p) (happens : Happens before event after) where
+module _ (before after : Simulation) (p : ℕ) (event : Event) (w : World) (shows : Shows before w) (caller : IsCaller (terms_in before) p) (happens : Happens before event after) where
   caller_then : IsCaller (terms_in after) p
   caller_then = subst (λ (terms : Terms). IsCaller terms p) (sym (same_terms before after happens.opening happens.settings)) caller
 
@@ -150,7 +150,7 @@ module _ (before after : Company) (p : ℕ) (event : Event) (w : World) (shows :
   }
 
 -- The attempt after a local move.
-pub attempt_moved : (before after : Company) (p : ℕ) (w : World) → Shows before w → IsCaller (terms_in before) p → (this : Move) → Happens before (Moves p this) after
+pub attempt_moved : (before after : Simulation) (p : ℕ) (w : World) → Shows before w → IsCaller (terms_in before) p → (this : Move) → Happens before (Moves p this) after
     → attempt_in after p ≡ moved (attempt_in before p) this
 unfolding happened
 attempt_moved before after p w shows caller this happens =
@@ -160,7 +160,7 @@ attempt_moved before after p w shows caller this happens =
 
 -- ---- what a caller's attempt does by itself
 
-module _ (before after : Company) (p : ℕ) (w : World) (shows : Shows before w) (caller : IsCaller (terms_in before) p) (same : IsSameOf p before after) where
+module _ (before after : Simulation) (p : ℕ) (w : World) (shows : Shows before w) (caller : IsCaller (terms_in before) p) (same : IsSameOf p before after) where
   closing_now : IsClosing (attempt_in before p).stage → IsClosing (attempt_of w p).stage
   closing_now closing = subst (λ (t : Attempt). IsClosing t.stage) (sym (shows.attempts p caller)) closing
 
@@ -189,32 +189,32 @@ module _ (before after : Company) (p : ℕ) (w : World) (shows : Shows before w)
       subst (λ (list : List Ask). GoesOn before p list after) is
       (goes_by before after p (Moves p this) w shows caller happens refl same (λ closing. closing_waits (attempt_in before p).stage closing waits.stands))
 
-  waited : (ask : Ask) → Happens before (Moves p (Takes ask)) after ⊎ Happens before (Moves p (Lacks ask)) after → AwaitsAsk (attempt_in before p)
+  waited : (ask : Ask) → Happens before (Moves p (Takes ask)) after ⊎ Happens before (Moves p (OutOfMemory ask)) after → AwaitsAsk (attempt_in before p)
   unfolding May
   waited ask (inl takes) = (may_now (Takes ask) takes).0
-  waited ask (inr lacks) = (may_now (Lacks ask) lacks).0
+  waited ask (inr lacks) = (may_now (OutOfMemory ask) lacks).0
 
-  pub asks_on : (ask : Ask) → Happens before (Moves p (Takes ask)) after ⊎ Happens before (Moves p (Lacks ask)) after → GoesOn before p (ask ∷ []) after
+  pub asks_on : (ask : Ask) → Happens before (Moves p (Takes ask)) after ⊎ Happens before (Moves p (OutOfMemory ask)) after → GoesOn before p (ask ∷ []) after
   unfolding asks_of
   asks_on ask (inl takes) = asked_on (Takes ask) (ask ∷ []) refl (waited ask (inl takes)) takes
-  asks_on ask (inr lacks) = asked_on (Lacks ask) (ask ∷ []) refl (waited ask (inr lacks)) lacks
+  asks_on ask (inr lacks) = asked_on (OutOfMemory ask) (ask ∷ []) refl (waited ask (inr lacks)) lacks
 
   -- Who is asked to finish is closing then.
-  pub finishes : IsFlat (attempt_in before p) → Happens before (Moves p (Takes Finish)) after ⊎ Happens before (Moves p (Lacks Finish)) after → IsClosing (attempt_in after p).stage
-  unfolding May MayLack
+  pub finishes : IsFlat (attempt_in before p) → Happens before (Moves p (Takes Finish)) after ⊎ Happens before (Moves p (OutOfMemory Finish)) after → IsClosing (attempt_in after p).stage
+  unfolding May MayRunOut
   finishes flat (inl takes) =
       subst (λ (t : Attempt). IsClosing t.stage) (sym (attempt_moved before after p w shows caller (Takes Finish) takes)) (finish_closing (attempt_in before p) flat (may_now (Takes Finish) takes).0.stands)
-  finishes flat (inr lacks) = absurd (may_now (Lacks Finish) lacks).3
+  finishes flat (inr lacks) = absurd (may_now (OutOfMemory Finish) lacks).3
 
 -- ---- a body
 
-pub along_whole : (a b : Company) (p : ℕ) (asks : List Ask) → GoesOn a p asks b → GoesAlong a p asks b
+pub along_whole : (a b : Simulation) (p : ℕ) (asks : List Ask) → GoesOn a p asks b → GoesAlong a p asks b
 along_whole a b p asks goes = record { asked = asks; behind = []; front = sym (append-nil asks); goes = goes }
 
-pub along_from : (a b c : Company) (p : ℕ) (asks : List Ask) → GoesOn a p [] b → GoesAlong b p asks c → GoesAlong a p asks c
+pub along_from : (a b c : Simulation) (p : ℕ) (asks : List Ask) → GoesOn a p [] b → GoesAlong b p asks c → GoesAlong a p asks c
 along_from a b c p asks first along = record { asked = along.asked; behind = along.behind; front = along.front; goes = goes_on a b c p [] along.asked first along.goes }
 
-pub along_more : (a b : Company) (p : ℕ) (asks more : List Ask) → GoesAlong a p asks b → GoesAlong a p (asks ++ more) b
+pub along_more : (a b : Simulation) (p : ℕ) (asks more : List Ask) → GoesAlong a p asks b → GoesAlong a p (asks ++ more) b
 along_more a b p asks more along = record {
   asked = along.asked;
   behind = along.behind ++ more;
@@ -222,7 +222,7 @@ along_more a b p asks more along = record {
   goes = along.goes;
 }
 
-along_then : (a b c : Company) (p : ℕ) (asks : List Ask) → GoesAlong a p asks b → GoesOn b p [] c → GoesAlong a p asks c
+along_then : (a b c : Simulation) (p : ℕ) (asks : List Ask) → GoesAlong a p asks b → GoesOn b p [] c → GoesAlong a p asks c
 along_then a b c p asks along goes = record {
   asked = along.asked ++ [];
   behind = along.behind;
@@ -231,7 +231,7 @@ along_then a b c p asks along goes = record {
 }
 
 -- Who is over isn't asked to finish.
-pub along_end : (a b c : Company) (p : ℕ) (asks : List Ask) → GoesAlong a p asks b → GoesOn a p asks b ⊎ ((attempt_in b p).stage ≡ Ended)
+pub along_end : (a b c : Simulation) (p : ℕ) (asks : List Ask) → GoesAlong a p asks b → GoesOn a p asks b ⊎ ((attempt_in b p).stage ≡ Ended)
     → GoesOn b p [] c ⊎ (AwaitsAsk (attempt_in b p) × GoesOn b p (Finish ∷ []) c) → GoesAlong a p (asks ++ Finish ∷ []) c
 unfolding IsClosing
 along_end a b c p asks along whole (inl goes) = along_more a c p asks (Finish ∷ []) (along_then a b c p asks along goes)
@@ -239,6 +239,6 @@ along_end a b c p asks along (inl whole) (inr asked) = along_whole a c p (asks +
 along_end a b c p asks along (inr over) (inr asked) = closing_waits (attempt_in b p).stage (rw over tt) asked.0.stands
 
 -- A body from its first reply: asked for all of these, and then to finish.
-pub along_body : (a b c d : Company) (p : ℕ) (asks : List Ask) → GoesOn a p [] b → GoesAlong b p asks c → GoesOn b p asks c ⊎ ((attempt_in c p).stage ≡ Ended)
+pub along_body : (a b c d : Simulation) (p : ℕ) (asks : List Ask) → GoesOn a p [] b → GoesAlong b p asks c → GoesOn b p asks c ⊎ ((attempt_in c p).stage ≡ Ended)
     → GoesOn c p [] d ⊎ (AwaitsAsk (attempt_in c p) × GoesOn c p (Finish ∷ []) d) → GoesAlong a p (asks ++ Finish ∷ []) d
 along_body a b c d p asks first along whole last = along_from a b d p (asks ++ Finish ∷ []) first (along_end b c d p asks along whole last)

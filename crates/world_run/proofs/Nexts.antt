@@ -3,15 +3,15 @@ use Rattle.std.proofs.Common.{Result, Ok, Err, OnErr, ◌≡◌, ℕ, Bool, true
 use Rattle.opacity.specs.Plain.{IsUndecided}
 use Rattle.stm_core.specs.Machine.{after_due, made, next_of, over, standing}
 use Rattle.stm_core.specs.declared.next.Next.{Next}
-use Rattle.stm_core.specs.declared.next.Next.TheVariants.{Access as ToAccess, Decide as ToDecide, Ring as ToRing, Run as ToRun}
-use Rattle.stm_model.specs.Accesses.{Act, LoadClock, TakeClock, LoadStatus, StoreStatus, TakeStatus, LoadMeta, TakeMeta, SetChanging, SetPending, ClearOwner, SwapMeta, LoadValue, StoreValue, access_of, next, next_at, packed, unless_due}
+use Rattle.stm_core.specs.declared.next.Next.TheVariants as coming
+use Rattle.stm_model.specs.Accesses.{Act, LoadClock, ExchangeClock, LoadStatus, StoreStatus, ExchangeStatus, LoadMeta, ExchangeMeta, SetChanging, SetPending, ClearOwner, SwapMeta, LoadValue, StoreValue, access_of, next, next_at, packed, unless_due}
 use Rattle.stm_model.specs.Attempt.{Attempt, Due, Stage, Ready, Late, Stopped, Decide, Ended, Run, Ring}
 use Rattle.stm_model.specs.Safe.{SafeStage}
 use Rattle.stm_model.specs.Moves.{AwaitsAsk, AwaitsAskAt, Does}
 use Rattle.stm_model.specs.World.{Moves, Steps, Terms, World}
 use Rattle.stm_model.specs.declared.access.Access.{Access}
 use Rattle.stm_model.specs.declared.ending.Ending.{Ending}
-use Rattle.world_run.specs.Company.{IsToDecide, replies, tells_end, tells_wait, turn_of}
+use Rattle.world_run.specs.Simulation.{IsToDecide, replies, tells_end, tells_wait, turn_of}
 
 -- The access that comes next is this one, and it isn't the exchange of the clock.
 pub record Makes (this : Option Act) (made_so : Access) : Type 0 where
@@ -20,15 +20,15 @@ pub record Makes (this : Option Act) (made_so : Access) : Type 0 where
   pub access : access_of act ≡ made_so
   pub undecided : IsUndecided made_so
 
-undecided : (act : Act) (access : Access) → made (packed (Some act)) ≡ Some (ToAccess access) → (access_of act ≡ access) × IsUndecided access
+undecided : (act : Act) (access : Access) → made (packed (Some act)) ≡ Some (coming.Access access) → (access_of act ≡ access) × IsUndecided access
 unfolding access_of IsUndecided
-undecided (TakeClock old) access is = cc
+undecided (ExchangeClock old) access is = cc
 undecided LoadClock access is = let one : access_of LoadClock ≡ access = cc in (one, rw (← one) tt)
 undecided (LoadStatus p) access is = let one : access_of (LoadStatus p) ≡ access = cc in (one, rw (← one) tt)
 undecided (StoreStatus p new) access is = let one : access_of (StoreStatus p new) ≡ access = cc in (one, rw (← one) tt)
-undecided (TakeStatus p old new) access is = let one : access_of (TakeStatus p old new) ≡ access = cc in (one, rw (← one) tt)
+undecided (ExchangeStatus p old new) access is = let one : access_of (ExchangeStatus p old new) ≡ access = cc in (one, rw (← one) tt)
 undecided (LoadMeta cell) access is = let one : access_of (LoadMeta cell) ≡ access = cc in (one, rw (← one) tt)
-undecided (TakeMeta cell old new) access is = let one : access_of (TakeMeta cell old new) ≡ access = cc in (one, rw (← one) tt)
+undecided (ExchangeMeta cell old new) access is = let one : access_of (ExchangeMeta cell old new) ≡ access = cc in (one, rw (← one) tt)
 undecided (SetChanging cell) access is = let one : access_of (SetChanging cell) ≡ access = cc in (one, rw (← one) tt)
 undecided (SetPending cell) access is = let one : access_of (SetPending cell) ≡ access = cc in (one, rw (← one) tt)
 undecided (ClearOwner cell) access is = let one : access_of (ClearOwner cell) ≡ access = cc in (one, rw (← one) tt)
@@ -36,15 +36,15 @@ undecided (SwapMeta cell new) access is = let one : access_of (SwapMeta cell new
 undecided (LoadValue cell) access is = let one : access_of (LoadValue cell) ≡ access = cc in (one, rw (← one) tt)
 undecided (StoreValue cell value) access is = let one : access_of (StoreValue cell value) ≡ access = cc in (one, rw (← one) tt)
 
-makes_made : (this : Option Act) (access : Access) → made (packed this) ≡ Some (ToAccess access) → Makes this access
+makes_made : (this : Option Act) (access : Access) → made (packed this) ≡ Some (coming.Access access) → Makes this access
 makes_made None access is = cc
 makes_made (Some act) access is = let both = undecided act access is in record { act = act; next = refl; access = both.0; undecided = both.1 }
 
-ended_replies : {A : Type 0} (ending : Option Ending) (access : Access) → over ending ≡ Some (ToAccess access) → A
+ended_replies : {A : Type 0} (ending : Option Ending) (access : Access) → over ending ≡ Some (coming.Access access) → A
 ended_replies None access is = cc
 ended_replies (Some ending) access is = cc
 
-makes_standing : (t : Attempt) (stage : Stage) (access : Access) → standing t stage ≡ Some (ToAccess access) → Makes (next_at t stage) access
+makes_standing : (t : Attempt) (stage : Stage) (access : Access) → standing t stage ≡ Some (coming.Access access) → Makes (next_at t stage) access
 unfolding standing
 makes_standing t (Ready None) access is = cc
 makes_standing t (Ready (Some value)) access is = cc
@@ -53,31 +53,31 @@ makes_standing t (Stopped cause) access is = cc
 makes_standing t Ended access is = ended_replies t.ending access is
 makes_standing t stage access is = makes_made (next_at t stage) access is
 
-makes_due : (t : Attempt) (due : List Due) (access : Access) → after_due due (standing t t.stage) ≡ Some (ToAccess access) → Makes (unless_due due (next_at t t.stage)) access
+makes_due : (t : Attempt) (due : List Due) (access : Access) → after_due due (standing t t.stage) ≡ Some (coming.Access access) → Makes (unless_due due (next_at t t.stage)) access
 unfolding after_due
 makes_due t [] access is = makes_standing t t.stage access is
 makes_due t (Run phase token ∷ dues) access is = cc
 makes_due t (Ring cell ∷ dues) access is = cc
 
-pub makes_access : (t : Attempt) (access : Access) → next_of t ≡ Some (ToAccess access) → Makes (next t) access
+pub makes_access : (t : Attempt) (access : Access) → next_of t ≡ Some (coming.Access access) → Makes (next t) access
 makes_access t access is = makes_due t t.due access is
 
 -- ---- the exchange of the clock
 
-takes_act : (act : Act) (old : ℕ) → made (packed (Some act)) ≡ Some (ToDecide old) → act ≡ TakeClock old
+takes_act : (act : Act) (old : ℕ) → made (packed (Some act)) ≡ Some (coming.Decide old) → act ≡ ExchangeClock old
 unfolding access_of
-takes_act (TakeClock other) old is = cc
+takes_act (ExchangeClock other) old is = cc
 takes_act act old is = cc
 
-takes_made : (this : Option Act) (old : ℕ) → made (packed this) ≡ Some (ToDecide old) → this ≡ Some (TakeClock old)
+takes_made : (this : Option Act) (old : ℕ) → made (packed this) ≡ Some (coming.Decide old) → this ≡ Some (ExchangeClock old)
 takes_made None old is = cc
 takes_made (Some act) old is = ap Some (takes_act act old is)
 
-over_replies : {A : Type 0} (ending : Option Ending) (old : ℕ) → over ending ≡ Some (ToDecide old) → A
+over_replies : {A : Type 0} (ending : Option Ending) (old : ℕ) → over ending ≡ Some (coming.Decide old) → A
 over_replies None old is = cc
 over_replies (Some ending) old is = cc
 
-takes_standing : (t : Attempt) (stage : Stage) (old : ℕ) → standing t stage ≡ Some (ToDecide old) → next_at t stage ≡ Some (TakeClock old)
+takes_standing : (t : Attempt) (stage : Stage) (old : ℕ) → standing t stage ≡ Some (coming.Decide old) → next_at t stage ≡ Some (ExchangeClock old)
 unfolding standing
 takes_standing t (Ready None) old is = cc
 takes_standing t (Ready (Some value)) old is = cc
@@ -86,16 +86,16 @@ takes_standing t (Stopped cause) old is = cc
 takes_standing t Ended old is = over_replies t.ending old is
 takes_standing t stage old is = takes_made (next_at t stage) old is
 
-takes_due : (t : Attempt) (due : List Due) (old : ℕ) → after_due due (standing t t.stage) ≡ Some (ToDecide old) → unless_due due (next_at t t.stage) ≡ Some (TakeClock old)
+takes_due : (t : Attempt) (due : List Due) (old : ℕ) → after_due due (standing t t.stage) ≡ Some (coming.Decide old) → unless_due due (next_at t t.stage) ≡ Some (ExchangeClock old)
 unfolding after_due
 takes_due t [] old is = takes_standing t t.stage old is
 takes_due t (Run phase token ∷ dues) old is = cc
 takes_due t (Ring cell ∷ dues) old is = cc
 
-pub takes_clock : (t : Attempt) (old : ℕ) → next_of t ≡ Some (ToDecide old) → next t ≡ Some (TakeClock old)
+pub takes_clock : (t : Attempt) (old : ℕ) → next_of t ≡ Some (coming.Decide old) → next t ≡ Some (ExchangeClock old)
 takes_clock t old is = takes_due t t.due old is
 
-pub to_decide : (next : Option Next) (old : ℕ) → next ≡ Some (ToDecide old) → IsToDecide next
+pub to_decide : (next : Option Next) (old : ℕ) → next ≡ Some (coming.Decide old) → IsToDecide next
 unfolding IsToDecide
 to_decide next old is = rw is tt
 
@@ -103,15 +103,15 @@ pub always_on_err : {T E P : Type 0} (result : Result T E) → P → OnErr resul
 always_on_err (Ok value) holds = tt
 always_on_err (Err error) holds = holds
 
-below_at : (terms : Terms) (w : World) (t : Attempt) (stage : Stage) (old : ℕ) → next_at t stage ≡ Some (TakeClock old) → SafeStage terms w t stage → old < terms.limit
+below_at : (terms : Terms) (w : World) (t : Attempt) (stage : Stage) (old : ℕ) → next_at t stage ≡ Some (ExchangeClock old) → SafeStage terms w t stage → old < terms.limit
 unfolding next_at SafeStage
 below_at terms w t (Decide lost clock) old is safe = let one : clock ≡ old = cc in rw (← one) safe.2
 below_at terms w t stage old is safe = cc
 
-pub below_limit : (terms : Terms) (w : World) (t : Attempt) (old : ℕ) → next t ≡ Some (TakeClock old) → SafeStage terms w t t.stage → old < terms.limit
+pub below_limit : (terms : Terms) (w : World) (t : Attempt) (old : ℕ) → next t ≡ Some (ExchangeClock old) → SafeStage terms w t t.stage → old < terms.limit
 below_limit terms w t old is safe = go t.due is
   where
-    go : (due : List Due) → unless_due due (next_at t t.stage) ≡ Some (TakeClock old) → old < terms.limit
+    go : (due : List Due) → unless_due due (next_at t t.stage) ≡ Some (ExchangeClock old) → old < terms.limit
     go [] here = below_at terms w t t.stage old here safe
     go (first ∷ due) here = cc
 
@@ -174,8 +174,8 @@ due_turn p (first ∷ due) some = refl
 
 -- something is due
 abbrev pub has_due : Option Next → Bool
-has_due (Some (ToRun phase token)) = true
-has_due (Some (ToRing addr)) = true
+has_due (Some (coming.Run phase token)) = true
+has_due (Some (coming.Ring addr)) = true
 has_due next = false
 
 quiet_standing : (t : Attempt) (stage : Stage) → IsTrue (replies (standing t stage)) → next_at t stage ≡ None

@@ -12,7 +12,7 @@ use Rattle.stm_model.specs.World.{Event, IsCaller, MayHappen, Moves, Terms, Worl
 use Rattle.stm_model.specs.declared.access.Ask.{Ask}
 use Rattle.stm_model.specs.declared.ending.Ending.{Ending}
 use Rattle.stm_model.specs.declared.ending.Ending.TheVariants.{Committed, Read, Rolled}
-use Rattle.world_run.specs.Company.{Company, Happens, MayBegin, Shows, Stands, attempt_in, terms_in}
+use Rattle.world_run.specs.Simulation.{Simulation, Happens, MayBegin, Shows, Stands, attempt_in, terms_in}
 use Rattle.world_run.specs.Run.{GoesAlong, GoesOn, HasEnded, IsOf, IsOpaque, IsTrueOf, Leaves, Runs, asks_of, told_ending}
 use Rattle.world_run.proofs.Entries.{leaves}
 use Rattle.world_run.proofs.Going.{attempt_moved, leads_by, leads_on, same_terms, shown_history}
@@ -45,9 +45,9 @@ told_some t told same ended none some =
     let here : told ≡ over t.ending = same ∙ over_next t t.due t.stage none ended in
     subst (λ (next : Option Next). IsSome (told_ending next)) (sym here) (over_some t.ending (subst (λ (next : Option Next). IsSome next) here some))
 
--- ---- a company and the world that it shows
+-- ---- a simulation and the world that it shows
 
-module _ (c : Company) (p : ℕ) (w : World) (shows : Shows c w) (caller : IsCaller (terms_in c) p) where
+module _ (c : Simulation) (p : ℕ) (w : World) (shows : Shows c w) (caller : IsCaller (terms_in c) p) where
   own_is : (attempt_in c p).own ≡ p
   own_is = subst (λ (t : Attempt). t.own ≡ p) (shows.attempts p caller) (shows.safe.attempts p caller).own
 
@@ -69,7 +69,7 @@ kept_over : (stage : Stage) (told : Option Ending) (ending : Ending) → stage �
 unfolding IsKept
 kept_over stage told ending over ends = rw (over, ends) tt
 
-pub opaque_of : (c : Company) (p : ℕ) → IsCaller (terms_in c) p → (ending : Ending) → (attempt_in c p).stage ≡ Ended → (attempt_in c p).ending ≡ Some ending → IsOpaque c p
+pub opaque_of : (c : Simulation) (p : ℕ) → IsCaller (terms_in c) p → (ending : Ending) → (attempt_in c p).stage ≡ Ended → (attempt_in c p).ending ≡ Some ending → IsOpaque c p
 opaque_of c p caller ending over ends = λ w shows.
     let is = shows.attempts p caller in
     let whole = safe_opaque free freely (terms_in c) w p shows.safe caller (begun_over (attempt_of w p).stage (ap (λ (t : Attempt). t.stage) is ∙ over))
@@ -79,7 +79,7 @@ opaque_of c p caller ending over ends = λ w shows.
 
 -- ---- what begins
 
-module _ (a b : Company) (count clock : ℕ) (old : Stands count clock a) (p : ℕ) (caller : IsCaller (terms_in a) p)
+module _ (a b : Simulation) (count clock : ℕ) (old : Stands count clock a) (p : ℕ) (caller : IsCaller (terms_in a) p)
     (begins : Happens a (Moves p (Begins a.settings)) b) where
   abbrev event : Event
   event = Moves p (Begins a.settings)
@@ -115,7 +115,7 @@ module _ (a b : Company) (count clock : ℕ) (old : Stands count clock a) (p : �
 
   -- ---- what follows
 
-  module _ (e : Company) (asks : List Ask) (along : GoesAlong b p asks e) where
+  module _ (e : Simulation) (asks : List Ask) (along : GoesAlong b p asks e) where
     abbrev goes : GoesOn b p along.asked e
     goes = along.goes
 

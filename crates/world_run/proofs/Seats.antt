@@ -1,4 +1,4 @@
--- What a company shows after an event, where of its attempts only the caller's changed.
+-- What a simulation shows after an event, where of its attempts only the caller's changed.
 use Rattle.std.proofs.Common.{◌≡◌, ◌≢◌, ℕ, ◌-◌, ◌<◌, ◌≤◌, Bool, true, false, nat_eq, List, length, get_or, set, Option, Some, None, ap, sym, ◌∙◌, refl, subst, arith}
 use Rattle.std.proofs.lemmas.Bool.Decides.{nat_tests}
 use Rattle.std.proofs.lemmas.List.{get_or-set_other, get_or-set_same, length-set}
@@ -11,7 +11,7 @@ use Rattle.stm_model.specs.Attempt.{Attempt}
 use Rattle.stm_model.specs.Safe.{Safe}
 use Rattle.stm_model.specs.World.{Event, IsCaller, Looks, MayHappen, MeetsOwed, Moves, Steps, Terms, View, Waits, World, attempt_of, happened, world_of}
 use Rattle.stm_model.specs.declared.settings.Settings.{Settings}
-use Rattle.world_run.specs.Company.{Company, Happens, IsFlat, Shows, Stands, attempt_in, latest, machine_at, terms_in}
+use Rattle.world_run.specs.Simulation.{Simulation, Happens, IsFlat, Shows, Stands, attempt_in, latest, machine_at, terms_in}
 
 -- every heap is lawful, and may follow any other
 abbrev pub free : List ℕ → Type 0
@@ -37,21 +37,21 @@ other_place q p is = grind (arith, nat_tests)
 other_seat : (q p : ℕ) → 0 < q → 0 < p → q ≢ p → q - 1 ≢ p - 1
 other_seat q p above over apart = λ same. apart (omega (arith, same))
 
-module _ (before after : Company) (p : ℕ) (was : Option Machine) (now : Machine) (caller : IsCaller (terms_in before) p)
+module _ (before after : Simulation) (p : ℕ) (was : Option Machine) (now : Machine) (caller : IsCaller (terms_in before) p)
     (opening : after.opening ≡ before.opening) (settings : after.settings ≡ before.settings)
-    (within : p - 1 < length before.crew) (crew : after.crew ≡ set before.crew (p - 1) (Some now)) where
+    (within : p - 1 < length before.machines) (machines : after.machines ≡ set before.machines (p - 1) (Some now)) where
   pub terms_same : terms_in after ≡ terms_in before
   terms_same = λ i. record { opening = opening i; callers = (settings i).callers; limit = (settings i).clock }
 
   pub own_now : attempt_in after p ≡ now.attempt
   own_now = ap (λ (machine : Option Machine). latest after.settings p machine)
-      (ap (λ (list : List (Option Machine)). get_or list (p - 1) None) crew ∙ get_or-set_same before.crew (p - 1) (Some now) None within)
+      (ap (λ (list : List (Option Machine)). get_or list (p - 1) None) machines ∙ get_or-set_same before.machines (p - 1) (Some now) None within)
 
   pub other_now : (q : ℕ) → 0 < q → q ≢ p → attempt_in after q ≡ attempt_in before q
   other_now q above apart =
       let there : machine_at after q ≡ machine_at before q =
-      ap (λ (list : List (Option Machine)). get_or list (q - 1) None) crew
-      ∙ get_or-set_other before.crew (p - 1) (q - 1) (Some now) None (other_seat q p above caller.0 apart) in
+      ap (λ (list : List (Option Machine)). get_or list (q - 1) None) machines
+      ∙ get_or-set_other before.machines (p - 1) (q - 1) (Some now) None (other_seat q p above caller.0 apart) in
       ap (λ (each : Settings). latest each q (machine_at after q)) settings ∙ ap (λ (machine : Option Machine). latest before.settings q machine) there
 
   -- each attempt is as before, or it is the caller's
@@ -92,7 +92,7 @@ module _ (before after : Company) (p : ℕ) (was : Option Machine) (now : Machin
   stands count clock old flat event happens = record {
     callers = old.callers ∙ ap (λ (each : Settings). each.callers) (sym settings);
     limit = old.limit ∙ ap (λ (each : Settings). each.clock) (sym settings);
-    size = rw (crew, settings) (length-set before.crew (p - 1) (Some now) ∙ old.size);
+    size = rw (machines, settings) (length-set before.machines (p - 1) (Some now) ∙ old.size);
     fits = subst SettingsFit (sym settings) old.fits;
     attempts = subst (λ (each : Settings). each.attempts ≤ MAX_SERIAL) (sym settings) old.attempts;
     flat = split (λ q t. IsFlat t) flat old.flat;

@@ -1,13 +1,13 @@
 -- The attempt after a caller's step, and the words of an access.
 use Rattle.std.proofs.Common.{◌≡◌, ℕ, ◌-◌, ◌<◌, ◌≤◌, List, Option, Some, None, IfNone, IfSome, Bool, true, false, ap, sym, ◌∙◌, refl, subst, length, get_or, arith, if◌then◌else◌}
 use Rattle.std.proofs.lemmas.Grind.{common_steps}
-use Rattle.opacity.specs.Plain.{IsCrew}
+use Rattle.opacity.specs.Plain.{AreAttempts}
 use Rattle.opacity.specs.Words.{IsOfTable, word_found, word_of}
 use Rattle.opacity.proofs.NextAccess.{good_next}
 use Rattle.opacity.proofs.Places.{attempt_here}
 use Rattle.opacity.proofs.WordSteps.{found_word}
 use Rattle.stm_core.specs.Machine.{ClockFits, Machine, in_flight}
-use Rattle.stm_model.specs.Accesses.{Act, Answer, LoadClock, TakeClock, access_of, next}
+use Rattle.stm_model.specs.Accesses.{Act, Answer, LoadClock, ExchangeClock, access_of, next}
 use Rattle.stm_model.specs.After.{after, after_found, after_word}
 use Rattle.stm_model.specs.Attempt.{Attempt, flies_at, is_in_flight}
 use Rattle.stm_model.specs.History.{Entry}
@@ -15,7 +15,7 @@ use Rattle.stm_model.specs.Safe.{Safe}
 use Rattle.stm_model.specs.Shown.{shown_by}
 use Rattle.stm_model.specs.World.{IsCaller, Terms, View, World, attempt_of, found, place_of, step, step_by, view_after, words_after, world_of}
 use Rattle.stm_model.specs.declared.settings.Settings.{Settings}
-use Rattle.world_run.specs.Company.{Company, Shows, latest, machine_at, terms_in}
+use Rattle.world_run.specs.Simulation.{Simulation, Shows, latest, machine_at, terms_in}
 use Rattle.world_run.proofs.Seats.{free, freely}
 
 -- what an attempt tells of itself
@@ -39,17 +39,17 @@ unfolding flies_at
 resting settings p None = refl
 resting settings p (Some machine) = tells_none machine.attempt (is_in_flight machine.attempt) refl
 
-module _ (c : Company) (w : World) (shows : Shows c w) (size : length c.crew ≡ c.settings.callers) where
+module _ (c : Simulation) (w : World) (shows : Shows c w) (size : length c.machines ≡ c.settings.callers) where
   abbrev pub ground : World
   ground = world_of (terms_in c) c.words c.history w.view
 
   pub ground_safe : Safe free freely (terms_in c) ground
   ground_safe = subst (λ (v : World). Safe free freely (terms_in c) v) shows.words shows.safe
 
-  own_seat : (p : ℕ) (d : Option Machine) → 0 < p → p ≤ c.settings.callers → get_or c.crew (p - 1) d ≡ machine_at c p
+  own_seat : (p : ℕ) (d : Option Machine) → 0 < p → p ≤ c.settings.callers → get_or c.machines (p - 1) d ≡ machine_at c p
   own_seat p d above within = grind (arith, common_steps, size)
 
-  pub crew_shown : IsCrew (shown_by tells) c.settings.callers c.crew w.view
+  pub crew_shown : AreAttempts (shown_by tells) c.settings.callers c.machines w.view
   crew_shown = record {
     size = size;
     in_flight = λ p d above within. rw (own_seat p d above within, shows.attempts p (above, within)) (flying c.settings p (machine_at c p));
@@ -86,7 +86,7 @@ module _ (terms : Terms) (words : List ℕ) (history : List Entry) (view : ℕ �
   fits_by : (this : Act) → ClockFits (view p).attempt (Some this) (word_found terms words (access_of this))
   unfolding ClockFits access_of word_of place_of world_of
   fits_by LoadClock = clock_within (view p).attempt.settings.clock (safe.attempts p caller).limit
-  fits_by (TakeClock old) = clock_within (view p).attempt.settings.clock (safe.attempts p caller).limit
+  fits_by (ExchangeClock old) = clock_within (view p).attempt.settings.clock (safe.attempts p caller).limit
   fits_by this = tt
 
   pub clock_fits : ClockFits (view p).attempt (next (view p).attempt) (word_found terms words (access_of act))

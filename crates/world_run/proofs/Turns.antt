@@ -1,13 +1,13 @@
--- What a step, an exchange of the clock and a ring of a caller make of a company.
+-- What a step, an exchange of the clock and a ring of a caller make of a simulation.
 use Rattle.std.proofs.Common.{◌≡◌, ℕ, suc, ◌+◌, ◌-◌, ◌<◌, ◌≤◌, List, [], ◌∷◌, length, get_or, set, Option, Some, None, ap, sym, ◌∙◌, refl, subst, arith}
 use Rattle.std.proofs.lemmas.Grind.{common_steps}
-use Rattle.opacity.specs.Plain.{IsCrew, ShowsSafe, terms_of, writes_in}
+use Rattle.opacity.specs.Plain.{AreAttempts, ShowsSafe, terms_of, writes_in}
 use Rattle.opacity.specs.Words.{IsOfTable, word_found, word_of}
 use Rattle.stm_core.specs.Machine.{ClockFits, Machine, after_due, next_of, standing}
 use Rattle.op_commit.specs.Buffered.{buffered}
-use Rattle.stm_core.specs.declared.next.Next.TheVariants.{Decide as ToDecide}
+use Rattle.stm_core.specs.declared.next.Next.TheVariants as coming
 use Rattle.meta_word.specs.declared.meta.TheConstants.{MAX_VERSION}
-use Rattle.stm_model.specs.Accesses.{Act, TakeClock, access_of, next, next_at}
+use Rattle.stm_model.specs.Accesses.{Act, ExchangeClock, access_of, next, next_at}
 use Rattle.stm_model.specs.After.{after_word}
 use Rattle.stm_model.specs.Attempt.{Announce, Attempt, Ended, Write, no_attempt}
 use Rattle.stm_model.specs.History.{Entry}
@@ -20,19 +20,19 @@ use Rattle.meta_word.specs.Status.{status_of}
 use Rattle.meta_word.specs.declared.status.TxnStatus.{TxnStatus}
 use Rattle.opacity.proofs.Places.{attempt_here}
 use Rattle.opacity.proofs.Tables.{status_in, status_own}
-use Rattle.world_run.specs.Company.{Company, Did, Happens, HasDue, IsFlat, MayTake, Shows, Stands, Took, attempt_in, latest, machine_at, terms_in}
+use Rattle.world_run.specs.Simulation.{Simulation, Did, Happens, HasDue, IsFlat, MayTake, Shows, Stands, Took, attempt_in, latest, machine_at, terms_in}
 use Rattle.world_run.proofs.Flats.{flat_after, flat_does}
 use Rattle.world_run.proofs.Nexts.{below_limit}
 use Rattle.world_run.proofs.Seats.{free, freely, happens, stands}
 use Rattle.world_run.proofs.Steps.{clock_fits, crew_shown, ground_safe, of_table, own_step, tells}
 
 -- a seat that is taken
-pub record Seat (c : Company) (p : ℕ) : Type 0 where
+pub record Seat (c : Simulation) (p : ℕ) : Type 0 where
   pub machine : Machine
   pub there : machine_at c p ≡ Some machine
 
 -- Who makes an access has an attempt.
-pub seat_of : (c : Company) (p : ℕ) (act : Act) → next (attempt_in c p) ≡ Some act → Seat c p
+pub seat_of : (c : Simulation) (p : ℕ) (act : Act) → next (attempt_in c p) ≡ Some act → Seat c p
 unfolding next_at
 seat_of c p act is = go (machine_at c p) refl
   where
@@ -41,23 +41,23 @@ seat_of c p act is = go (machine_at c p) refl
     go (Some machine) some = record { machine = machine; there = some }
 
 -- The machine that was found at a seat is the caller's.
-pub seat_is : (settings : Settings) (p : ℕ) (crew : List (Option Machine)) → p - 1 < length crew → (found : Option Machine) (machine : Machine) → found ≡ get_or crew (p - 1) found → found ≡ Some machine
-    → latest settings p (get_or crew (p - 1) None) ≡ machine.attempt
-seat_is settings p crew low found machine same some =
-    let default : get_or crew (p - 1) None ≡ get_or crew (p - 1) found = grind (arith, common_steps) in
+pub seat_is : (settings : Settings) (p : ℕ) (machines : List (Option Machine)) → p - 1 < length machines → (found : Option Machine) (machine : Machine) → found ≡ get_or machines (p - 1) found → found ≡ Some machine
+    → latest settings p (get_or machines (p - 1) None) ≡ machine.attempt
+seat_is settings p machines low found machine same some =
+    let default : get_or machines (p - 1) None ≡ get_or machines (p - 1) found = grind (arith, common_steps) in
     ap (λ (each : Option Machine). latest settings p each) (default ∙ sym same ∙ some)
 
 -- Who has begun no attempt doesn't exchange the clock.
-pub nobody_decides : {A : Type 0} (settings : Settings) (p : ℕ) (crew : List (Option Machine)) (found : Option Machine) → found ≡ get_or crew (p - 1) found → found ≡ None
-    → (old : ℕ) → next_of (latest settings p (get_or crew (p - 1) None)) ≡ Some (ToDecide old) → A
+pub nobody_decides : {A : Type 0} (settings : Settings) (p : ℕ) (machines : List (Option Machine)) (found : Option Machine) → found ≡ get_or machines (p - 1) found → found ≡ None
+    → (old : ℕ) → next_of (latest settings p (get_or machines (p - 1) None)) ≡ Some (coming.Decide old) → A
 unfolding after_due standing
-nobody_decides settings p crew found same none old next =
+nobody_decides settings p machines found same none old next =
     let named = rw none at same in
-    let here : get_or crew (p - 1) None ≡ None = sym named in
-    let never : next_of (latest settings p None) ≡ Some (ToDecide old) = rw here at next in cc
+    let here : get_or machines (p - 1) None ≡ None = sym named in
+    let never : next_of (latest settings p None) ≡ Some (coming.Decide old) = rw here at next in cc
 
 -- What the exchange of the clock finds is the clock.
-pub clock_found : (terms : Terms) (words : List ℕ) (taken : ℕ) → word_found terms words (access_of (TakeClock taken)) ≡ get_or words 0 0
+pub clock_found : (terms : Terms) (words : List ℕ) (taken : ℕ) → word_found terms words (access_of (ExchangeClock taken)) ≡ get_or words 0 0
 unfolding access_of word_of place_of
 clock_found terms words taken = refl
 
@@ -67,7 +67,7 @@ writes_back [] = refl
 writes_back (write ∷ writes) = ap (λ (behind : List Write). write ∷ behind) (writes_back writes)
 
 -- Who does nothing leaves the world as it is.
-pub idle : (c : Company) (p : ℕ) → IsCaller (terms_in c) p → next (attempt_in c p) ≡ None → Happens c (Steps p) c
+pub idle : (c : Simulation) (p : ℕ) → IsCaller (terms_in c) p → next (attempt_in c p) ≡ None → Happens c (Steps p) c
 unfolding happened MayHappen step_by
 idle c p caller none = record {
   opening = refl;
@@ -78,8 +78,8 @@ idle c p caller none = record {
       subst (λ (v : World). Shows c v) (sym (ap (λ (this : Option Act). step_by w p this) no_act)) shows;
 }
 
-module _ (before : Company) (count clock : ℕ) (old : Stands count clock before) (p : ℕ) (caller : IsCaller (terms_in before) p) where
-  pub within : p - 1 < length before.crew
+module _ (before : Simulation) (count clock : ℕ) (old : Stands count clock before) (p : ℕ) (caller : IsCaller (terms_in before) p) where
+  pub within : p - 1 < length before.machines
   within = let above : 0 < p = caller.0 in let low : p ≤ before.settings.callers = caller.1 in omega (arith, above, low, old.size)
 
   pub terms_is : terms_of before.opening count clock ≡ terms_in before
@@ -98,8 +98,8 @@ module _ (before : Company) (count clock : ℕ) (old : Stands count clock before
   abbrev pub table : Terms
   table = terms_of before.opening count clock
 
-  pub crew_of : (w : World) → Shows before w → IsCrew (shown_by tells) count before.crew w.view
-  crew_of w shows = subst (λ (callers : ℕ). IsCrew (shown_by tells) callers before.crew w.view) (sym old.callers) (crew_shown before w shows old.size)
+  pub crew_of : (w : World) → Shows before w → AreAttempts (shown_by tells) count before.machines w.view
+  crew_of w shows = subst (λ (callers : ℕ). AreAttempts (shown_by tells) callers before.machines w.view) (sym old.callers) (crew_shown before w shows old.size)
 
   pub safe_of : (w : World) → Shows before w → Safe free freely table (world_of table before.words before.history w.view)
   safe_of w shows = subst (λ (terms : Terms). Safe free freely terms (world_of terms before.words before.history w.view)) (sym terms_is) (ground_safe before w shows old.size)
@@ -111,7 +111,7 @@ module _ (before : Company) (count clock : ℕ) (old : Stands count clock before
       subst (λ (terms : Terms). (let ground = world_of terms before.words before.history w.view in step ground p ≡ world_of terms words history (step ground p).view)) terms_is showing.shows
 
   -- The clock that is exchanged is below its limit.
-  pub clock_below : (taken : ℕ) → next (attempt_in before p) ≡ Some (TakeClock taken) → taken < MAX_VERSION
+  pub clock_below : (taken : ℕ) → next (attempt_in before p) ≡ Some (ExchangeClock taken) → taken < MAX_VERSION
   clock_below taken takes =
       let safe_own = (old.shows.safe.attempts p caller).stage in
       let low : taken < (terms_in before).limit = below_limit (terms_in before) old.world (attempt_of old.world p) taken (rw (old.shows.attempts p caller) takes) safe_own in
@@ -125,7 +125,7 @@ module _ (before : Company) (count clock : ℕ) (old : Stands count clock before
     pub act_of_table : IsOfTable (terms_of before.opening count clock) (word_of (access_of act))
     act_of_table = rw terms_is (of_table (terms_in before) before.words before.history view p act safe caller (view_next old.world old.shows))
 
-    pub may_take : (found : ℕ) → found ≡ word_found (terms_of before.opening count clock) before.words (access_of act) → MayTake before.crew (p - 1) found
+    pub may_take : (found : ℕ) → found ≡ word_found (terms_of before.opening count clock) before.words (access_of act) → MayTake before.machines (p - 1) found
     may_take found same =
         let seat = seat_of before p act is in
         let own : attempt_in before p ≡ seat.machine.attempt = ap (λ (machine : Option Machine). latest before.settings p machine) seat.there in
@@ -141,8 +141,8 @@ module _ (before : Company) (count clock : ℕ) (old : Stands count clock before
               (clock_fits (terms_in before) before.words before.history view p act safe caller (view_next old.world old.shows))));
         }
 
-    module _ (after : Company) (crew : List (Option Machine)) (found : ℕ) (same : found ≡ word_found (terms_of before.opening count clock) before.words (access_of act))
-        (opening : after.opening ≡ before.opening) (settings : after.settings ≡ before.settings) (took : Took before.crew after.crew (p - 1) found)
+    module _ (after : Simulation) (machines : List (Option Machine)) (found : ℕ) (same : found ≡ word_found (terms_of before.opening count clock) before.words (access_of act))
+        (opening : after.opening ≡ before.opening) (settings : after.settings ≡ before.settings) (took : Took before.machines after.machines (p - 1) found)
         (shown : (w : World) → Shows before w → (let ground = world_of (terms_in before) before.words before.history w.view in
         step ground p ≡ world_of (terms_in before) after.words after.history (step ground p).view)) where
       own : took.was.attempt ≡ attempt_in before p
@@ -180,9 +180,9 @@ module _ (before : Company) (count clock : ℕ) (old : Stands count clock before
   -- ---- local moves
 
   module _ (this : Move) (able : May (cells_in (terms_in before)) (terms_in before).limit (attempt_in before p) this)
-      (after : Company) (opening : after.opening ≡ before.opening) (settings : after.settings ≡ before.settings)
+      (after : Simulation) (opening : after.opening ≡ before.opening) (settings : after.settings ≡ before.settings)
       (words : after.words ≡ before.words) (history : after.history ≡ before.history)
-      (now : Machine) (crew : after.crew ≡ set before.crew (p - 1) (Some now)) (is : now.attempt ≡ moved (attempt_in before p) this) where
+      (now : Machine) (machines : after.machines ≡ set before.machines (p - 1) (Some now)) (is : now.attempt ≡ moved (attempt_in before p) this) where
     may_move : (w : World) → Shows before w → MayHappen (terms_in before) w (Moves p this)
     unfolding MayHappen
     may_move w shows = (caller, subst (λ (t : Attempt). May (cells_in (terms_in before)) (terms_in before).limit t this) (sym (shows.attempts p caller)) able)
@@ -198,10 +198,10 @@ module _ (before : Company) (count clock : ℕ) (old : Stands count clock before
     words_moved w shows = rw (words, history) (ap (λ (v : World). record v { view = (happened w (Moves p this)).view }) shows.words)
 
     pub moves : Happens before (Moves p this) after
-    moves = happens before after p None now caller opening settings within crew (Moves p this) refl may_move own_moved words_moved
+    moves = happens before after p None now caller opening settings within machines (Moves p this) refl may_move own_moved words_moved
 
     pub stands_moved : IsFlat (moved (attempt_in before p) this) → Stands count clock after
-    stands_moved flat = stands before after p None now caller opening settings within crew count clock old (subst (λ (t : Attempt). IsFlat t) (sym is) flat) (Moves p this) moves
+    stands_moved flat = stands before after p None now caller opening settings within machines count clock old (subst (λ (t : Attempt). IsFlat t) (sym is) flat) (Moves p this) moves
 
   -- ---- what begins
 
@@ -236,15 +236,15 @@ module _ (before : Company) (count clock : ℕ) (old : Stands count clock before
   -- ---- what is due
 
   module _ (due : 0 < length (attempt_in before p).due) where
-    due_seat : (machine : Option Machine) → machine_at before p ≡ machine → HasDue before.crew (p - 1)
+    due_seat : (machine : Option Machine) → machine_at before p ≡ machine → HasDue before.machines (p - 1)
     due_seat None none = let here : 0 < length (latest before.settings p None).due = rw none at due in absurd (omega (arith, here))
     due_seat (Some machine) some = record { machine = machine; within = within; there = some; due = rw some at due }
 
-    pub has_due : HasDue before.crew (p - 1)
+    pub has_due : HasDue before.machines (p - 1)
     has_due = due_seat (machine_at before p) refl
 
-    module _ (after : Company) (opening : after.opening ≡ before.opening) (settings : after.settings ≡ before.settings)
-        (words : after.words ≡ before.words) (history : after.history ≡ before.history) (did : Did before.crew after.crew (p - 1)) where
+    module _ (after : Simulation) (opening : after.opening ≡ before.opening) (settings : after.settings ≡ before.settings)
+        (words : after.words ≡ before.words) (history : after.history ≡ before.history) (did : Did before.machines after.machines (p - 1)) where
       own_did : did.was.attempt ≡ attempt_in before p
       own_did = sym (ap (λ (machine : Option Machine). latest before.settings p machine) did.changes.there)
 

@@ -1,2 +1,2 @@
-pub mod Company
+pub mod Simulation
 pub mod Run

@@ -2,11 +2,11 @@
 //! operations find in a safe world.
 #![tactic(auto)]
 
-mod company;
+mod simulation;
 pub mod laws;
 mod run;
 
-pub use company::Company;
+pub use simulation::Simulation;
 pub use stm_core::{Next, Reply};
 
 #[cfg(test)]

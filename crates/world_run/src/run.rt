@@ -6,14 +6,14 @@ ghost use Rattle.stm_model.specs.Attempt.{Ended};
 ghost use Rattle.stm_model.specs.Moves.{AwaitsAsk};
 ghost use Rattle.stm_model.specs.World.{IsCaller};
 ghost use Rattle.stm_model.specs.declared.access.Ask.TheVariants.{Finish};
-ghost use Rattle.world_run.specs.Company.{IsTaken, IsToDecide, MayBegin, Stands, attempt_in, machine_at, replies, terms_in};
+ghost use Rattle.world_run.specs.Simulation.{IsTaken, IsToDecide, MayBegin, Stands, attempt_in, machine_at, replies, terms_in};
 ghost use Rattle.world_run.specs.Run.{GoesAlong, GoesOn, HasEnded, IsOpaque, IsTrueOf, Leaves, Runs, told_ending};
 
-use crate::company::Company;
+use crate::simulation::Simulation;
 use stm_core::{Next, Reply};
 use stm_model::{Ask, Ending, Memory};
 
-impl Company {
+impl Simulation {
     /// Makes a caller's next attempt as a whole, nobody else moving, and gives its ending. It begins, is asked
     /// for each of these in turn and then to finish, unless it is over before, and after each ask it goes on
     /// until it replies. Where no attempt may begin there is none, and nothing changes. Memory is wanting

@@ -1,14 +1,14 @@
 //! Whole attempts of an only caller, which may make two.
 ghost use Rattle.std.specs.Prelude.{◌≡◌, IfOk, length};
 
-use crate::Company;
+use crate::Simulation;
 use std::test::Fail;
 use stm_model::{Addr, Ask, Cause, Ending, Note, Policy, Settings};
 
 // Two cells with 5 and 7.
-fn opened(rt: &HostRuntime) -> Result<Company, Fail>
-    ensures callers { IfOk result (λ company. company.settings.callers ≡ 1) }
-    ensures cells { IfOk result (λ company. length company.opening ≡ 2) }
+fn opened(rt: &HostRuntime) -> Result<Simulation, Fail>
+    ensures callers { IfOk result (λ simulation. simulation.settings.callers ≡ 1) }
+    ensures cells { IfOk result (λ simulation. length simulation.opening ≡ 2) }
 {
     let settings = Settings {
         callers: 1,
@@ -17,17 +17,17 @@ fn opened(rt: &HostRuntime) -> Result<Company, Fail>
         clock: 9,
         attempts: 2,
     };
-    Ok(Company::new(rt.alloc(), settings, &[5, 7])?)
+    Ok(Simulation::new(rt.alloc(), settings, &[5, 7])?)
 }
 
 #[test]
-#[tactic(auto, unfolding(crate::specs::Company::IsTaken))]
+#[tactic(auto, unfolding(crate::specs::Simulation::IsTaken))]
 fn a_read_and_a_write_commit_and_leave_an_entry(rt: HostRuntime) -> Result<(), Fail> {
-    let mut company = opened(&rt)?;
+    let mut simulation = opened(&rt)?;
     let asks = [Ask::Get(Addr(0)), Ask::Set(Addr(1), 9)];
-    let ending = company.run_attempt(1, &asks)?;
+    let ending = simulation.run_attempt(1, &asks)?;
     assert_eq!(rt; ending, Some(Ending::Committed { stamp: 1 }));
-    let history = &company.world().history;
+    let history = &simulation.world().history;
     assert_eq!(rt; history.len(), 1);
     let noted = Note {
         addr: Addr(0),
@@ -41,28 +41,28 @@ fn a_read_and_a_write_commit_and_leave_an_entry(rt: HostRuntime) -> Result<(), F
 }
 
 #[test]
-#[tactic(auto, unfolding(crate::specs::Company::IsTaken, crate::specs::Company::IsBodys))]
+#[tactic(auto, unfolding(crate::specs::Simulation::IsTaken, crate::specs::Simulation::IsBodys))]
 fn who_asks_to_retry_leaves_no_entry(rt: HostRuntime) -> Result<(), Fail> {
-    let mut company = opened(&rt)?;
+    let mut simulation = opened(&rt)?;
     let asks = [Ask::Set(Addr(1), 9), Ask::Abandon(Cause::Retry)];
     let rolled = Ending::Rolled {
         cause: Cause::Retry,
         prefix: 0,
     };
-    assert_eq!(rt; company.run_attempt(1, &asks)?, Some(rolled));
-    assert_eq!(rt; company.world().history.len(), 0);
-    assert_eq!(rt; company.run_attempt(1, &asks)?, Some(rolled));
-    assert_eq!(rt; company.run_attempt(1, &asks)?, None);
+    assert_eq!(rt; simulation.run_attempt(1, &asks)?, Some(rolled));
+    assert_eq!(rt; simulation.world().history.len(), 0);
+    assert_eq!(rt; simulation.run_attempt(1, &asks)?, Some(rolled));
+    assert_eq!(rt; simulation.run_attempt(1, &asks)?, None);
     Ok(())
 }
 
 #[test]
-#[tactic(auto, unfolding(crate::specs::Company::IsTaken))]
+#[tactic(auto, unfolding(crate::specs::Simulation::IsTaken))]
 fn a_later_attempt_reads_what_committed(rt: HostRuntime) -> Result<(), Fail> {
-    let mut company = opened(&rt)?;
-    company.run_attempt(1, &[Ask::Set(Addr(1), 9)])?;
-    let reader = company.run_attempt(1, &[Ask::Get(Addr(1))])?;
+    let mut simulation = opened(&rt)?;
+    simulation.run_attempt(1, &[Ask::Set(Addr(1), 9)])?;
+    let reader = simulation.run_attempt(1, &[Ask::Get(Addr(1))])?;
     assert_eq!(rt; reader, Some(Ending::Read { prefix: 1 }));
-    assert_eq!(rt; company.world().history.len(), 1);
+    assert_eq!(rt; simulation.world().history.len(), 1);
     Ok(())
 }

@@ -20,7 +20,7 @@ fn commit(rt: &impl Abort, op: &mut CommitOp, reads: &ReadSet, steps: &[(Access,
     for (access, answer) in steps {
         assert_eq!(rt; op.next(reads), Some(*access));
         assert!(rt; op.end().is_none());
-        if let CommitPlace::Sample { .. } = op.place {
+        if let CommitPlace::CommitClock { .. } = op.place {
             assert!(rt; *answer <= op.limit);
         }
         op.take(reads, *answer);

@@ -15,7 +15,7 @@ fn step(rt: &impl Abort, op: &mut CommitOp, notes: &Vec<Note>, access: Access, a
 {
     assert!(rt; op.end().is_none());
     assert_eq!(rt; op.next(notes), Some(access));
-    if let CommitPlace::Sample { .. } = op.place {
+    if let CommitPlace::CommitClock { .. } = op.place {
         assert!(rt; answer <= op.limit);
     }
     op.take(notes, answer);

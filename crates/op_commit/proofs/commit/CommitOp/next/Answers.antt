@@ -10,13 +10,13 @@ returns-in-Mark-clause-access g c = λ going t nothing commits same.
     let within : index < length t.now.writes = rw commits.writes (rw c.in-Mark.is at c.requires.place) in
     rw c.in-Mark.is (sym (marks t nothing index (write_of note) (drop-buffered t.now.writes t.notes index note within (rw same at c.at.ensures))))
 
-pub returns-in-Store-clause-access : goal.returns-in-Store-clause-access
-returns-in-Store-clause-access g c = λ going t nothing commits same.
-    let index = c.in-Store.index in
+pub returns-in-StoreValues-clause-access : goal.returns-in-StoreValues-clause-access
+returns-in-StoreValues-clause-access g c = λ going t nothing commits same.
+    let index = c.in-StoreValues.index in
     let note = c.at-note.result in
-    let place = rw c.in-Store.is at c.requires.place in
+    let place = rw c.in-StoreValues.is at c.requires.place in
     let within : index < length t.now.writes = rw commits.writes place.0 in
-    rw c.in-Store.is (sym (stores t nothing index (write_of note) (drop-buffered t.now.writes t.notes index note within (rw same at c.at-note.ensures)) c.in-Store.stamp))
+    rw c.in-StoreValues.is (sym (stores t nothing index (write_of note) (drop-buffered t.now.writes t.notes index note within (rw same at c.at-note.ensures)) c.in-StoreValues.stamp))
 
 pub returns-in-Release-clause-access : goal.returns-in-Release-clause-access
 returns-in-Release-clause-access g c = λ going t nothing commits same.
@@ -26,10 +26,10 @@ returns-in-Release-clause-access g c = λ going t nothing commits same.
     let within : index < length t.now.writes = rw commits.writes place.0 in
     rw (c.in-Release.is, c.released_word.ensures) (sym (releases t nothing index (write_of note) (drop-buffered t.now.writes t.notes index note within (rw same at c.at-in-Release.ensures)) c.in-Release.stamp))
 
-pub returns-in-Check-clause-access : goal.returns-in-Check-clause-access
-returns-in-Check-clause-access g c = λ going t nothing commits same.
-    let index = c.in-Check.index in
-    let note = c.at-in-Check.result in
-    let place = rw c.in-Check.is at c.requires.place in
+pub returns-in-CommitNote-clause-access : goal.returns-in-CommitNote-clause-access
+returns-in-CommitNote-clause-access g c = λ going t nothing commits same.
+    let index = c.in-CommitNote.index in
+    let note = c.at-in-CommitNote.result in
+    let place = rw c.in-CommitNote.is at c.requires.place in
     let behind : length t.now.writes ≤ index = rw commits.writes place.0 in
-    rw (c.in-Check.is, ← commits.writes) (sym (looks-at t nothing c.in-Check.lost c.in-Check.clock index (length t.now.writes) note (drop-read t.now.writes t.notes index note behind (rw same at c.at-in-Check.ensures))))
+    rw (c.in-CommitNote.is, ← commits.writes) (sym (looks-at t nothing c.in-CommitNote.lost c.in-CommitNote.clock index (length t.now.writes) note (drop-read t.now.writes t.notes index note behind (rw same at c.at-in-CommitNote.ensures))))

@@ -16,12 +16,12 @@ returns-in-Decide-clause-after g c = λ t nothing commits same.
     rw c.in-Decide.is (takes-decision t nothing c.in-Decide.lost c.in-Decide.clock c.args.answer
     ∙ c.after_decide-self.ensures.stands t nothing (whatever-due c.args.self.now None t t.due commits))
 
-pub returns-in-Sample-clause-after : goal.returns-in-Sample-clause-after
-returns-in-Sample-clause-after g c = λ t nothing commits same.
+pub returns-in-CommitClock-clause-after : goal.returns-in-CommitClock-clause-after
+returns-in-CommitClock-clause-after g c = λ t nothing commits same.
     let op = c.args.self.now in
     let dues = due_at c.check_from-self.result None t in
     let count : c.len-count.result ≡ op.writes + length t.notes = rw (c.len-count.ensures, same, ← commits.writes) (length-all t.now.writes t.notes) in
-    rw c.in-Sample.is (takes-clock t nothing c.in-Sample.lost c.args.answer op.writes dues (c.check_from-self.ensures.due t)
+    rw c.in-CommitClock.is (takes-clock t nothing c.in-CommitClock.lost c.args.answer op.writes dues (c.check_from-self.ensures.due t)
     ∙ c.check_from-self.ensures.stands (record t { due = dues }) (whatever-due op None t dues commits) count)
 
 pub returns-in-Mark-clause-after : goal.returns-in-Mark-clause-after
@@ -32,13 +32,13 @@ returns-in-Mark-clause-after g c = λ t nothing commits same.
     rw c.in-Mark.is (goes-marking t nothing c.in-Mark.index _ (drop-within t.now.writes c.in-Mark.index within) c.args.answer dues (c.mark_from-self.ensures.due t)
     ∙ c.mark_from-self.ensures.stands (record t { due = dues }) (whatever-due op None t dues commits))
 
-pub returns-in-Store-clause-after : goal.returns-in-Store-clause-after
-returns-in-Store-clause-after g c = λ t nothing commits same.
+pub returns-in-StoreValues-clause-after : goal.returns-in-StoreValues-clause-after
+returns-in-StoreValues-clause-after g c = λ t nothing commits same.
     let op = c.args.self.now in
     let dues = due_at c.store_from-self.result None t in
-    let place = rw c.in-Store.is at c.requires.along.place in
-    let within : c.in-Store.index < length t.now.writes = rw commits.writes place.0 in
-    rw c.in-Store.is (goes-storing t nothing c.in-Store.index _ (drop-within t.now.writes c.in-Store.index within) c.in-Store.stamp c.args.answer dues (c.store_from-self.ensures.due t)
+    let place = rw c.in-StoreValues.is at c.requires.along.place in
+    let within : c.in-StoreValues.index < length t.now.writes = rw commits.writes place.0 in
+    rw c.in-StoreValues.is (goes-storing t nothing c.in-StoreValues.index _ (drop-within t.now.writes c.in-StoreValues.index within) c.in-StoreValues.stamp c.args.answer dues (c.store_from-self.ensures.due t)
     ∙ c.store_from-self.ensures.stands (record t { due = dues }) (whatever-due op None t dues commits))
 
 pub returns-in-Release-clause-after : goal.returns-in-Release-clause-after
@@ -57,24 +57,24 @@ returns-in-Release-clause-after g c = λ t nothing commits same.
 pub returns-then-still_has-clause-after : goal.returns-then-still_has-clause-after
 returns-then-still_has-clause-after g c = λ t nothing commits same.
     let op = c.args.self.now in
-    let index = c.in-Check.index in
+    let index = c.in-CommitNote.index in
     let note = c.at-note.result in
     let dues = due_at c.check_from-self-then-still_has.result None t in
-    let place = rw c.in-Check.is at c.requires.along.place in
+    let place = rw c.in-CommitNote.is at c.requires.along.place in
     let behind : length t.now.writes ≤ index = rw commits.writes place.0 in
     let here = rw commits.writes at (drop-read t.now.writes t.notes index note behind (rw same at c.at-note.ensures)) in
     let count : c.len-count.result ≡ op.writes + length t.notes = rw (c.len-count.ensures, same, ← commits.writes) (length-all t.now.writes t.notes) in
     let still : still_has t.own note.version (meta_of c.args.answer) ≡ true = rw (commits.own, sym c.unpack_meta-found.ensures.fields) (sym c.still_has.ensures ∙ c.if-still_has.true) in
-    rw c.in-Check.is (goes-checking t nothing c.in-Check.lost c.in-Check.clock index op.writes note here c.args.answer dues (c.check_from-self-then-still_has.ensures.due t) still
+    rw c.in-CommitNote.is (goes-checking t nothing c.in-CommitNote.lost c.in-CommitNote.clock index op.writes note here c.args.answer dues (c.check_from-self-then-still_has.ensures.due t) still
     ∙ c.check_from-self-then-still_has.ensures.stands (record t { due = dues }) (whatever-due op None t dues commits) count)
 
 pub returns-else-still_has-clause-after : goal.returns-else-still_has-clause-after
 returns-else-still_has-clause-after g c = λ t nothing commits same.
     let op = c.args.self.now in
-    let index = c.in-Check.index in
+    let index = c.in-CommitNote.index in
     let note = c.at-note.result in
-    let place = rw c.in-Check.is at c.requires.along.place in
+    let place = rw c.in-CommitNote.is at c.requires.along.place in
     let behind : length t.now.writes ≤ index = rw commits.writes place.0 in
     let here = rw commits.writes at (drop-read t.now.writes t.notes index note behind (rw same at c.at-note.ensures)) in
     let stale : still_has t.own note.version (meta_of c.args.answer) ≡ false = rw (commits.own, sym c.unpack_meta-found.ensures.fields) (sym c.still_has.ensures ∙ c.if-still_has.false) in
-    rw (c.in-Check.is, c.stale-self.ensures, c.unpack_meta-found.ensures.fields) (ends-stale t nothing c.in-Check.lost c.in-Check.clock index op.writes note here c.args.answer stale)
+    rw (c.in-CommitNote.is, c.stale-self.ensures, c.unpack_meta-found.ensures.fields) (ends-stale t nothing c.in-CommitNote.lost c.in-CommitNote.clock index op.writes note here c.args.answer stale)

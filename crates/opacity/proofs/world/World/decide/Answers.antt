@@ -6,7 +6,7 @@ use Rattle.stm_model.specs.World.{place_of}
 use Rattle.opacity.proofs.world.World.decide.Goals as goal
 
 pub returns-then-clock-old-clause-step : goal.returns-then-clock-old-clause-step
-returns-then-clock-old-clause-step g c = λ view crew safe next noted written owes.
+returns-then-clock-old-clause-step g c = λ view attempts safe next noted written owes.
     let self = c.args.self.now in
     let below : suc c.args.old < 2 ^ 64 = omega (arith, c.requires.old) in
     decides_lost (g.L.Law.lawful self.law) (g.L.Law.may self.law) (terms_of self.opening.items self.callers self.limit) self.words.items _ view c.args.caller c.args.old
@@ -14,7 +14,7 @@ returns-then-clock-old-clause-step g c = λ view crew safe next noted written ow
 
 pub returns-clause-step : goal.returns-clause-step
 unfolding place_of
-returns-clause-step g c = λ view crew safe next noted written owes.
+returns-clause-step g c = λ view attempts safe next noted written owes.
     let self = c.args.self.now in
     let below : suc c.args.old < 2 ^ 64 = omega (arith, c.requires.old) in
     let same = sym c.clock-clock.ensures ∙ c.if-clock-old.false in

@@ -2,7 +2,7 @@ use Rattle.std.proofs.Common.{◌≡◌, ◌+◌, ◌∙◌, false, Some, [], �
 use Rattle.std.proofs.lemmas.List.{length-append, length-map}
 use Rattle.op_commit.specs.Buffered.{buffered, ring_for}
 use Rattle.stm_core.proofs.Asking.{concludes, no_writes}
-use Rattle.stm_core.specs.Running.{HoldsAt, base, closing, standing_so}
+use Rattle.stm_core.specs.Running.{InvariantAt, base, closing, attempt_at}
 use Rattle.stm_model.specs.After.{at, roll_on}
 use Rattle.stm_model.specs.Attempt.{Close, Ready}
 use Rattle.stm_model.specs.Moves.{asked_going, conclude}
@@ -20,12 +20,12 @@ returns-then-count-eq0-clause-moves c = λ told.
     c.go_back.ensures.stands ∙ ap (λ writes. roll_on (closing (base r) (Read r.prefix) false) writes) none ∙ closes ∙ sym (ap (λ writes. conclude t writes) none)
 
 pub returns-else-count-eq0-clause-moves : goal.returns-else-count-eq0-clause-moves
-unfolding asked_going standing_so
+unfolding asked_going attempt_at
 returns-else-count-eq0-clause-moves c = λ told. let r = c.args.self.now in
     c.new.ensures.begins (base r) ∙ sym (concludes (at (base r) (Ready told)) r.footprint.writes.writes (λ none. c.if-count-eq0.false (c.len-count.ensures.count ∙ none)))
 
 pub returns-else-count-eq0-clause-sound : goal.returns-else-count-eq0-clause-sound
-unfolding HoldsAt
+unfolding InvariantAt
 returns-else-count-eq0-clause-sound c =
     let r = c.args.self.now in
     let many : length (buffered r.footprint.writes.writes ++ r.footprint.reads.notes) ≡ length r.footprint.writes.writes + length r.footprint.reads.notes =

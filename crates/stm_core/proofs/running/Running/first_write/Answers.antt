@@ -1,9 +1,9 @@
 use Rattle.std.proofs.Common.{refl, sym, arith}
-use Rattle.stm_core.specs.Running.{HoldsAt}
+use Rattle.stm_core.specs.Running.{InvariantAt}
 use Rattle.stm_core.proofs.running.Running.first_write.Goals as goal
 
 pub returns-in-Ok-clause-sound : goal.returns-in-Ok-clause-sound
-unfolding HoldsAt
+unfolding InvariantAt
 returns-in-Ok-clause-sound c = record {
   fits = c.requires.fits;
   holds = record {

@@ -1,9 +1,9 @@
 use Rattle.std.proofs.Common.{refl, sym}
-use Rattle.stm_core.specs.Running.{HoldsAt}
+use Rattle.stm_core.specs.Running.{InvariantAt}
 use Rattle.stm_core.proofs.running.Running.go_on_reading.Goals as goal
 
 pub returns-clause-sound : goal.returns-clause-sound
-unfolding HoldsAt
+unfolding InvariantAt
 returns-clause-sound c = record {
   fits = c.requires.fits;
   holds = record {

@@ -2,11 +2,11 @@ use Rattle.std.proofs.Common.{◌≡◌, refl, sym, ◌∙◌, []}
 use Rattle.op_commit.specs.Back.{IsBacking}
 use Rattle.op_commit.specs.declared.back.BackPlace.TheVariants.{Ended}
 use Rattle.stm_core.proofs.Ends.{back_ends, back_over, whatever_is_due}
-use Rattle.stm_core.specs.Running.{HoldsAt, base, closing, standing_so}
+use Rattle.stm_core.specs.Running.{InvariantAt, base, closing, attempt_at}
 use Rattle.stm_core.proofs.running.Running.take_back.Goals as goal
 
 pub returns-in-None-clause-sound : goal.returns-in-None-clause-sound
-unfolding HoldsAt
+unfolding InvariantAt
 returns-in-None-clause-sound c = record {
   fits = c.requires.fits;
   holds = record {
@@ -18,7 +18,7 @@ returns-in-None-clause-sound c = record {
 }
 
 pub returns-in-Some-Back-clause-after : goal.returns-in-Some-Back-clause-after
-unfolding standing_so
+unfolding attempt_at
 returns-in-Some-Back-clause-after c =
     let t = closing (base c.args.self.now) c.args.ending c.args.prepared in
     let op = c.take.new.self in

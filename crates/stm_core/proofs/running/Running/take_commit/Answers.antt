@@ -1,10 +1,10 @@
 use Rattle.std.proofs.Common.{refl}
 use Rattle.stm_core.proofs.Ends.{whatever_due}
-use Rattle.stm_core.specs.Running.{HoldsAt}
+use Rattle.stm_core.specs.Running.{InvariantAt}
 use Rattle.stm_core.proofs.running.Running.take_commit.Goals as goal
 
 pub returns-in-None-clause-sound : goal.returns-in-None-clause-sound
-unfolding HoldsAt
+unfolding InvariantAt
 returns-in-None-clause-sound c = record {
   fits = c.requires.fits;
   holds = record {
@@ -15,7 +15,7 @@ returns-in-None-clause-sound c = record {
 }
 
 pub returns-in-Some-Prepared-clause-sound : goal.returns-in-Some-Prepared-clause-sound
-unfolding HoldsAt
+unfolding InvariantAt
 returns-in-Some-Prepared-clause-sound c = record {
   fits = c.requires.fits;
   holds = record {

@@ -1,9 +1,9 @@
 use Rattle.std.proofs.Common.{refl, sym, ◌∙◌, ap, Some}
-use Rattle.stm_core.specs.Running.{HoldsAt}
+use Rattle.stm_core.specs.Running.{InvariantAt}
 use Rattle.stm_core.proofs.running.Running.take_read.Goals as goal
 
 pub returns-in-None-clause-sound : goal.returns-in-None-clause-sound
-unfolding HoldsAt
+unfolding InvariantAt
 returns-in-None-clause-sound c = record {
   fits = c.requires.fits;
   holds = record {
@@ -14,7 +14,7 @@ returns-in-None-clause-sound c = record {
 }
 
 pub returns-in-Some-NeedExtension-clause-sound : goal.returns-in-Some-NeedExtension-clause-sound
-unfolding HoldsAt
+unfolding InvariantAt
 returns-in-Some-NeedExtension-clause-sound c = record {
   fits = c.requires.fits;
   holds = record {

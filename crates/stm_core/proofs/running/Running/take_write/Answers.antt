@@ -1,9 +1,9 @@
 use Rattle.std.proofs.Common.{refl}
-use Rattle.stm_core.specs.Running.{HoldsAt}
+use Rattle.stm_core.specs.Running.{InvariantAt}
 use Rattle.stm_core.proofs.running.Running.take_write.Goals as goal
 
 pub returns-in-None-clause-sound : goal.returns-in-None-clause-sound
-unfolding HoldsAt
+unfolding InvariantAt
 returns-in-None-clause-sound c = record {
   fits = c.requires.fits;
   holds = record {

@@ -1,5 +1,0 @@
-use Rattle.std.proofs.Common.{◌≡◌, ℕ, None, get_or, length}
-use Rattle.world_run.proofs.company.nobody.Given as goal
-
-abbrev pub invariant-loop : goal.invariant-loop
-invariant-loop l = record { size : length l.crew.items ≡ l.counter; each : (index : ℕ) → get_or l.crew.items index None ≡ None }

@@ -1,0 +1,11 @@
+use Rattle.std.proofs.Common.{[]}
+use Rattle.stm_model.specs.World.{IsCaller}
+use Rattle.world_run.specs.Simulation.{left_of, terms_in}
+use Rattle.world_run.specs.Run.{GoesOn}
+use Rattle.world_run.proofs.simulation.Simulation.settle.Given as goal
+
+abbrev pub invariant-loop-self : goal.invariant-loop-self
+invariant-loop-self l = record { caller : IsCaller (terms_in l.self) l.caller; goes : GoesOn l.fn.self l.caller [] l.self }
+
+abbrev pub decreases-loop-self : goal.decreases-loop-self
+decreases-loop-self l = left_of l.self l.caller
