@@ -1,5 +1,5 @@
 -- A cell's metadata word as a number, and as its fields.
-use Rattle.std.specs.Prelude.{ℕ, ◌+◌, ◌*◌, ◌/◌, ◌%◌, ◌^◌, ◌≤◌, ◌==◌, Bool, not, ◌&&◌, nat_eq}
+use Rattle.std.specs.Prelude.{ℕ, ◌+◌, ◌*◌, ◌/◌, ◌%◌, ◌^◌, ◌≤◌, ◌==◌, Bool, true, false, not, ◌&&◌, nat_eq}
 use Rattle.std.specs.Int.{bit_at, from_bool}
 use Rattle.meta_word.specs.declared.meta.Meta.{Meta}
 use Rattle.meta_word.specs.declared.meta.TheConstants.{MAX_OWNER, MAX_VERSION}
@@ -38,3 +38,18 @@ changing_by_another own meta = meta.changing && owned_by_another own meta
 -- the cell still has the version, and no other caller is about to change it
 abbrev pub still_has : ℕ → ℕ → Meta → Bool
 still_has own version meta = nat_eq meta.version version && not (changing_by_another own meta)
+
+-- ---- two words
+
+abbrev pub same_bool : Bool → Bool → Bool
+same_bool true other = other
+same_bool false other = not other
+
+-- the same but for the pending bit
+abbrev pub same_but_pending : Meta → Meta → Bool
+same_but_pending meta other =
+    same_bool meta.changing other.changing && (nat_eq meta.owner other.owner && nat_eq meta.version other.version)
+
+-- the same word
+abbrev pub same_meta : Meta → Meta → Bool
+same_meta meta other = same_but_pending meta other && same_bool meta.pending other.pending

@@ -1,5 +1,5 @@
 -- A caller's status word as a number, and as its fields.
-use Rattle.std.specs.Prelude.{ℕ, ◌+◌, ◌*◌, ◌/◌, ◌%◌, ◌^◌, ◌≤◌, ◌==◌, if◌then◌else◌}
+use Rattle.std.specs.Prelude.{ℕ, ◌+◌, ◌*◌, ◌/◌, ◌%◌, ◌^◌, ◌≤◌, ◌==◌, Bool, ◌&&◌, nat_eq, if◌then◌else◌}
 use Rattle.meta_word.specs.declared.status.Phase.{Phase}
 use Rattle.meta_word.specs.declared.status.Phase.TheVariants.{Idle, Active, Preparing, Doomed}
 use Rattle.meta_word.specs.declared.status.TxnStatus.{TxnStatus}
@@ -27,3 +27,7 @@ status_word status = 2 ^ 2 * status.serial + phase_number status.phase
 -- the fields, each read from its bits
 unfoldable pub status_of : ℕ → TxnStatus
 status_of word = record { serial = word / 2 ^ 2; phase = phase_of (word % 2 ^ 2) }
+
+-- the same status
+abbrev pub same_status : TxnStatus → TxnStatus → Bool
+same_status status other = nat_eq status.serial other.serial && nat_eq (phase_number status.phase) (phase_number other.phase)

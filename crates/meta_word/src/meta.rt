@@ -17,7 +17,7 @@
 //! Where the word that was given back or released was pending, that caller rings for those who wait.
 
 ghost use Rattle.std.specs.Prelude.{◌≡◌};
-ghost use Rattle.meta_word.specs.Meta.{MetaFits, changing_by_another, meta_of, meta_word, owned_by_another, still_has};
+ghost use Rattle.meta_word.specs.Meta.{MetaFits, changing_by_another, meta_of, meta_word, owned_by_another, same_but_pending, still_has};
 
 // Where the fields begin. The version begins at bit 0.
 const OWNER_AT: u32 = 51;
@@ -27,7 +27,7 @@ const PENDING_AT: u32 = 62;
 const CHANGING_AT: u32 = 63;
 
 /// The greatest number that an owner may have: callers are numbered from 1.
-pub const MAX_OWNER: u16 = (1 << (PENDING_AT - OWNER_AT)) - 1;
+pub const MAX_OWNER: u16 = u16::MAX >> (u16::BITS - (PENDING_AT - OWNER_AT));
 
 /// The greatest version, and so the greatest value that the clock may have.
 pub const MAX_VERSION: u64 = (1 << OWNER_AT) - 1;
@@ -78,6 +78,15 @@ impl Meta {
         ensures { result ≡ still_has own version self.now }
     {
         self.version == version && !self.is_changing_by_another(own)
+    }
+
+    /// Whether this is the same word as another, but perhaps for the pending bit.
+    pub fn is_same_but_pending(&self, other: Meta) -> bool
+        ensures { result ≡ same_but_pending self.now other }
+    {
+        self.changing == other.changing
+            && self.owner == other.owner
+            && self.version == other.version
     }
 }
 

@@ -1,7 +1,7 @@
 -- The commit of what an attempt has written.
 use Rattle.std.specs.Prelude.{◌≡◌, ◌≢◌, IsFalse, ℕ, ◌+◌, ◌-◌, ◌*◌, ◌<◌, ◌≤◌, ◌⊎◌, List, ◌++◌, length, drop, Option, Some, None, unwrap_or}
 use Rattle.meta_word.specs.Meta.{still_has}
-use Rattle.meta_word.specs.Status.{status_of}
+use Rattle.meta_word.specs.Status.{status_of, same_status}
 use Rattle.meta_word.specs.declared.meta.TheConstants.{MAX_VERSION}
 use Rattle.meta_word.specs.declared.status.Phase.{Phase}
 use Rattle.meta_word.specs.declared.status.Phase.TheVariants.{Active, Doomed as IsDoomed, Idle, Preparing}
@@ -20,7 +20,7 @@ use Rattle.stm_model.specs.declared.ending.Ending.TheVariants.{Committed}
 use Rattle.stm_model.specs.declared.note.Note.{Note}
 use Rattle.stm_model.specs.declared.settings.Settings.{Settings}
 use Rattle.stm_model.specs.Accesses.{active}
-use Rattle.stm_model.specs.After.{same_status, at, validate_on, mark_on, release_on, rolled, run_all, store_on}
+use Rattle.stm_model.specs.After.{at, validate_on, mark_on, release_on, rolled, run_all, store_on}
 use Rattle.stm_model.specs.Attempt.{Attempt, Close, Decide, Due, Ended, Prepare, CommitClock}
 use Rattle.stm_model.specs.Evidence.{Evidence}
 use Rattle.stm_model.specs.Handlers.{after_commit, committing as runs_at_decision, preparing as runs_before}

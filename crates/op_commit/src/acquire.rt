@@ -9,7 +9,7 @@ ghost use Rattle.meta_word.specs.declared.meta.Meta.{Meta};
 ghost use Rattle.meta_word.specs.declared.meta.TheConstants.{MAX_OWNER};
 ghost use Rattle.stm_model.specs.declared.access.Access.TheVariants.{Exchange};
 ghost use Rattle.stm_model.specs.Accesses.{meta_of_cell, next_access, owned};
-ghost use Rattle.stm_model.specs.After.{meta_acquired, after_word, at, note_of, owner_status_loaded, owner_validated, exchanged, same_but_pending, acquire_again, write_refused};
+ghost use Rattle.stm_model.specs.After.{meta_acquired, after_word, at, note_of, owner_status_loaded, owner_validated, exchanged, acquire_again, write_refused};
 ghost use Rattle.stm_model.specs.Attempt.{AcquireMeta, Attempt};
 ghost use Rattle.stm_model.specs.Evidence.{IsEvident};
 ghost use Rattle.stm_model.specs.Safe.{IsFree};
@@ -245,7 +245,7 @@ impl AcquireOp {
         ensures within { IsWithin self.new }
         ensures falls { accesses_left self.new < accesses_left self.old }
     {
-        let is_close = is_same_but_pending(found, expected);
+        let is_close = found.is_same_but_pending(expected);
         if is_close && found.pending == expected.pending {
             self.place = AcquirePlace::Ended(AcquireEnd::Owned { meta: found });
         } else if is_close && !again {
@@ -363,11 +363,4 @@ impl AcquireOp {
             _ => None,
         }
     }
-}
-
-// Whether the words are the same but for the pending bit.
-fn is_same_but_pending(meta: Meta, other: Meta) -> bool
-    ensures { result ≡ same_but_pending meta other }
-{
-    meta.changing == other.changing && meta.owner == other.owner && meta.version == other.version
 }

@@ -1,14 +1,14 @@
 -- The accesses that take a cell keep the world safe.
 use Rattle.std.proofs.Common.{◌⊎◌, ◌≡◌, ◌≢◌, ℕ, zero, suc, nat_eq, ◌<◌, ◌&&◌, ◌||◌, not, true, false, Bool, Some, None, Option, if◌then◌else◌, List, [], ◌∷◌, refl, sym, ap, ◌∙◌, arith, inl, inr, subst}
 use Rattle.std.proofs.lemmas.Bool.Decides.{nat_tests}
-use Rattle.meta_word.specs.Meta.{owned_by_another}
+use Rattle.meta_word.specs.Meta.{owned_by_another, same_bool, same_but_pending, same_meta}
 use Rattle.meta_word.specs.Policy.{dooms}
 use Rattle.meta_word.specs.declared.meta.Meta.{Meta}
 use Rattle.meta_word.specs.declared.status.Phase.TheVariants.{Active}
 use Rattle.stm_model.specs.declared.cause.Cause.TheVariants.{Stale}
 use Rattle.stm_model.specs.declared.note.Note.{Note}
 use Rattle.stm_model.specs.Accesses.{next_at, owned}
-use Rattle.stm_model.specs.After.{meta_acquired, acquiring, after_at, at, done, note_of, exchanged, same_bool, same_but_pending, same_meta, stopped, acquire_again, doom_or_again, write_refused}
+use Rattle.stm_model.specs.After.{meta_acquired, acquiring, after_at, at, done, note_of, exchanged, stopped, acquire_again, doom_or_again, write_refused}
 use Rattle.stm_model.specs.Attempt.{AcquireMeta, Attempt, Acquire, Ready, OwnerStatus, Stage, Write, held_at, holds, unmarked_at, unstored_at}
 use Rattle.stm_model.specs.Evidence.{Evidence, HasMoved}
 use Rattle.stm_model.specs.Heap.{put, writes_to}

@@ -3,13 +3,13 @@ use Rattle.std.proofs.Common.{◌≡◌, ◌≢◌, ℕ, nat_eq, ◌&&◌, not, 
 use Rattle.std.proofs.lemmas.Bool.{and_parts, cases_eq}
 use Rattle.std.proofs.lemmas.Bool.Decides.{nat_tests}
 use Rattle.meta_word.specs.Meta.{owned_by_another}
-use Rattle.meta_word.specs.Status.{phase_number}
+use Rattle.meta_word.specs.Status.{phase_number, same_status}
 use Rattle.meta_word.specs.declared.meta.Meta.{Meta}
 use Rattle.meta_word.specs.declared.status.Phase.{Phase}
 use Rattle.meta_word.specs.declared.status.Phase.TheVariants.{Active, Doomed, Idle, Preparing}
 use Rattle.meta_word.specs.declared.status.TxnStatus.{TxnStatus}
 use Rattle.stm_model.specs.Accesses.{doomed, next_at}
-use Rattle.stm_model.specs.After.{after_at, at, is_active, owner_status_loaded, owner_validated, same_status, acquire_again}
+use Rattle.stm_model.specs.After.{after_at, at, is_active, owner_status_loaded, owner_validated, acquire_again}
 use Rattle.stm_model.specs.Attempt.{Attempt, DoomOwner, OwnerMeta, OwnerStatus, Stage}
 use Rattle.stm_model.specs.Safe.{IsToWrite, Safe, SafeAttempt, SafeStage, WasTaken}
 use Rattle.stm_model.specs.World.{IsCaller, Terms, World, attempt_of, words_after, clock_after, found, replaced, seen_after, since_at, with_status, with_view}

@@ -4,7 +4,8 @@ use Rattle.std.proofs.lemmas.Bool.{cases_eq}
 use Rattle.meta_word.specs.declared.status.Phase.TheVariants.{Active, Doomed, Idle, Preparing}
 use Rattle.meta_word.specs.declared.status.TxnStatus.{TxnStatus}
 use Rattle.stm_model.specs.Accesses.{Act, StoreStatus, ExchangeClock, ExchangeMeta, ExchangeStatus, active, doomed, next, next_at, unless_due}
-use Rattle.stm_model.specs.After.{same_meta, same_status}
+use Rattle.meta_word.specs.Meta.{same_meta}
+use Rattle.meta_word.specs.Status.{same_status}
 use Rattle.stm_model.specs.Attempt.{Announce, Attempt, Close, Due, DoomOwner, Prepare, Stage}
 use Rattle.stm_model.specs.Safe.{Safe, SafeStage}
 use Rattle.stm_model.specs.World.{Event, IsCaller, Looks, MayHappen, Moves, Steps, Terms, View, Waits, World, attempt_of, entry_of, happened, replaced, step, with_status, words_after}

@@ -1,13 +1,14 @@
 -- Each access of an attempt keeps it alone, where no other caller has one in flight.
 use Rattle.std.proofs.Common.{◌≡◌, ◌≢◌, ℕ, suc, nat_eq, nat_lt, ◌<◌, ◌≤◌, ◌&&◌, ◌++◌, not, true, false, Bool, Some, None, Option, if◌then◌else◌, List, [], ◌∷◌, length, refl, sym, ap, ◌∙◌, arith, subst}
-use Rattle.meta_word.specs.Meta.{changing_by_another, owned_by_another, still_has}
+use Rattle.meta_word.specs.Meta.{changing_by_another, owned_by_another, still_has, same_but_pending, same_meta}
 use Rattle.meta_word.specs.declared.meta.Meta.{Meta}
 use Rattle.meta_word.specs.declared.status.Phase.TheVariants.{Doomed as DoomedPhase, Preparing}
 use Rattle.stm_model.specs.declared.cause.Cause.TheVariants.{ClockMoved, Doomed}
 use Rattle.stm_model.specs.declared.ending.Ending.TheVariants.{Committed}
 use Rattle.stm_model.specs.declared.note.Note.{Note}
 use Rattle.stm_model.specs.Accesses.{Act, active, next_at, owned}
-use Rattle.stm_model.specs.After.{meta_acquired, acquiring, after_at, at, note_validated, decided, done, meta_read, validated, mark_on, note_of, exchanged, prepared, ring_if, rolled, run_all, same_but_pending, same_meta, same_status, store_on, acquire_again}
+use Rattle.meta_word.specs.Status.{same_status}
+use Rattle.stm_model.specs.After.{meta_acquired, acquiring, after_at, at, note_validated, decided, done, meta_read, validated, mark_on, note_of, exchanged, prepared, ring_if, rolled, run_all, store_on, acquire_again}
 use Rattle.stm_model.specs.Attempt.{Announce, Begin, ReadMeta, ExtendClock, ExtendNote, ReadValue, Validate, AcquireMeta, Acquire, OwnerStatus, OwnerMeta, DoomOwner, ReleaseLevel, Prepare, Mark, CommitClock, CommitNote, Decide, StoreValues, Release, RollBack, Close, Attempt, Stage, cause_at}
 use Rattle.stm_model.specs.Handlers.{committing, preparing}
 use Rattle.stm_model.specs.Heap.{put}

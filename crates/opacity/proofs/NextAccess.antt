@@ -8,12 +8,12 @@ use Rattle.meta_word.specs.declared.meta.Meta.{Meta}
 use Rattle.meta_word.specs.declared.meta.TheConstants.{MAX_VERSION}
 use Rattle.meta_word.specs.declared.status.TxnStatus.{TxnStatus}
 use Rattle.stm_model.specs.declared.note.Note.{Note}
-use Rattle.stm_model.specs.Accesses.{Act, access_of, next, next_at, unless_due}
+use Rattle.stm_model.specs.Accesses.{Act, access_of, next, next_at, unless_due, word_of}
 use Rattle.stm_model.specs.Attempt.{Attempt, Due, Stage, Write, AcquireMeta, Announce, Begin, CommitNote, Close, Decide, DoomOwner, ExtendNote, ReadValue, ReadMeta, ReleaseLevel, Mark, Acquire, Prepare, Release, ExtendClock, RollBack, CommitClock, Validate, OwnerMeta, OwnerStatus, StoreValues}
 use Rattle.stm_model.specs.Safe.{EndingAt, EndsWith, GivesBack, Safe, SafeStage, WasTaken, stamp_on}
 use Rattle.stm_model.specs.World.{IsCaller, Terms, World, attempt_of, cells_in}
 use Rattle.stm_model.proofs.HistoryLemmas.{last_within}
-use Rattle.opacity.specs.Words.{BringsWords, FieldsFit, IsOfTable, word_of}
+use Rattle.opacity.specs.Words.{BringsWords, FieldsFit, IsOfTable}
 use Rattle.opacity.proofs.GivesBack.{out_there}
 use Rattle.opacity.proofs.Releases.{written_cell}
 use Rattle.opacity.proofs.Shown.{all_at}

@@ -5,14 +5,14 @@ use Rattle.std.proofs.lemmas.Bool.Decides.{nat_tests}
 use Rattle.std.proofs.lemmas.List.{map-append, set-get_or}
 use Rattle.std.proofs.lemmas.Option.{get_or_from_slice_get}
 use Rattle.meta_word.specs.Status.{status_of}
-use Rattle.stm_model.specs.Accesses.{ExchangeClock, access_of, next, next_at, unless_due}
+use Rattle.stm_model.specs.Accesses.{ExchangeClock, access_of, next, next_at, unless_due, word_of}
 use Rattle.stm_model.specs.Attempt.{Attempt, Announce, Begin, Due, Stage, Write}
 use Rattle.stm_model.specs.History.{Entry}
 use Rattle.stm_model.specs.Safe.{HasBegun, Safe}
 use Rattle.stm_model.specs.World.{IsCaller, MayHappen, MeetsOwed, Steps, Terms, View, World, entry_of, happened, place_of, step, step_by, words_after, world_of}
 use Rattle.stm_model.specs.declared.note.Note.{Note}
 use Rattle.opacity.specs.Plain.{ShowsSafe, writes_in}
-use Rattle.opacity.specs.Words.{BringsWords, IsTable, effect, table_after, word_of}
+use Rattle.opacity.specs.Words.{BringsWords, IsTable, effect, table_after}
 use Rattle.opacity.proofs.Stands.{serial_from}
 use Rattle.opacity.proofs.Steps.{event_safe}
 use Rattle.opacity.proofs.Tables.{status_in, status_own}

@@ -1,15 +1,16 @@
 -- A step that leaves the clock, in a world that a table shows.
 use Rattle.std.proofs.Common.{◌≡◌, ℕ, Bool, true, false, List, Option, Some, None, ap, sym, ◌∙◌, refl, subst, if◌then◌else◌, ◌<◌, ◌++◌, ◌∷◌, []}
 use Rattle.std.proofs.lemmas.List.{set-get_or}
-use Rattle.stm_model.specs.Accesses.{Act, LoadClock, SetPending, ExchangeClock, ExchangeMeta, ExchangeStatus, access_of, next, next_access, packed}
-use Rattle.stm_model.specs.After.{same_meta, same_status}
+use Rattle.stm_model.specs.Accesses.{Act, LoadClock, SetPending, ExchangeClock, ExchangeMeta, ExchangeStatus, access_of, next, next_access, packed, word_of}
+use Rattle.meta_word.specs.Meta.{same_meta}
+use Rattle.meta_word.specs.Status.{same_status}
 use Rattle.stm_model.specs.Attempt.{Attempt, Ended}
 use Rattle.stm_model.specs.History.{Entry}
 use Rattle.stm_model.specs.Safe.{Safe}
 use Rattle.stm_model.specs.World.{IsCaller, Looks, MayHappen, MeetsOwed, Steps, Terms, View, Waits, World, cells_in, happened, look, place_of, step, step_by, wait, with_meta, with_status, with_view, words_after, world_of}
 use Rattle.stm_model.specs.declared.access.Access.{Access}
 use Rattle.opacity.specs.Plain.{IsUndecided, ShowsSafe}
-use Rattle.opacity.specs.Words.{BringsWords, FieldsFit, IsOfTable, IsTable, effect, table_after, word_of}
+use Rattle.opacity.specs.Words.{BringsWords, FieldsFit, IsOfTable, IsTable, effect, table_after}
 use Rattle.opacity.proofs.Steps.{event_safe}
 use Rattle.opacity.proofs.WordSteps.{shows_after}
 use Rattle.opacity.proofs.TableSteps.{step_shown}

@@ -13,7 +13,7 @@ use Rattle.stm_model.specs.Attempt.{Attempt, cause_at}
 use Rattle.stm_model.specs.Evidence.{Evidence, HasMoved}
 use Rattle.stm_model.specs.Accesses.{addr_of}
 use Rattle.stm_model.specs.After.{note_of, write_refused}
-use Rattle.stm_model.specs.Refusing.{NotesVersion}
+use Rattle.stm_model.specs.Refusing.{IsOfBody, NotesVersion}
 use Rattle.stm_model.specs.Safe.{IsShown, NamesNote}
 use Rattle.stm_model.specs.Moves.{MayAbandon}
 
@@ -38,14 +38,18 @@ if_shows t (Some cause) shown = from_shown t cause shown
 some_shown : (found : Option Cause) (cause : Cause) (P : Cause → Type 0) → found ≡ Some cause → IfSome found P → P cause
 some_shown found cause P is shown = subst (λ (o : Option Cause). IfSome o P) is shown
 
+body_shown : (t : Attempt) (cause : Cause) → IsOfBody cause → Shows t cause
+unfolding Evidence NamesNote
+body_shown t Retry own = (tt, tt)
+body_shown t (User code) own = (tt, tt)
+body_shown t Memory own = (tt, tt)
+body_shown t (Full used blocks) own = (own, tt)
+body_shown t cause own = absurd own
+
 -- A body rolls back for a cause that is shown.
 pub abandon_shown : (t : Attempt) → IfSome (cause_at t.stage) (Shows t) → (cause : Cause) → MayAbandon t cause → Shows t cause
-unfolding MayAbandon Evidence NamesNote
-abandon_shown t refused Retry able = (tt, tt)
-abandon_shown t refused (User code) able = (tt, tt)
-abandon_shown t refused Memory able = (tt, tt)
-abandon_shown t refused (Full used blocks) able = (able, tt)
-abandon_shown t refused cause able = some_shown (cause_at t.stage) cause (Shows t) able refused
+abandon_shown t refused cause (inl own) = body_shown t cause own
+abandon_shown t refused cause (inr is) = some_shown (cause_at t.stage) cause (Shows t) is refused
 
 -- A first write is refused for a cause that is shown, where the cell has moved unless another owns it.
 pub write_shown : (t : Attempt) (cell : ℕ) (first latest : Meta) → (owned_by_another t.own latest ≡ false → HasMoved t.own first latest) → Shows t (write_refused t.own cell first latest)

@@ -1,5 +1,5 @@
 -- Where an attempt may stand while no other is in flight, and how it goes on from there.
-use Rattle.std.proofs.Common.{◌≡◌, ℕ, drop, nat_eq, nat_lt, ◌<◌, ◌++◌, true, false, Bool, Some, None, Option, if◌then◌else◌, IfSome, List, [], ◌∷◌, length, refl, arith, subst}
+use Rattle.std.proofs.Common.{◌≡◌, ℕ, drop, nat_eq, nat_lt, ◌<◌, ◌++◌, true, false, Bool, Some, None, Option, if◌then◌else◌, IfSome, List, [], ◌∷◌, length, refl, arith, subst, inl, inr}
 use Rattle.std.specs.Map.{lookup}
 use Rattle.meta_word.specs.Policy.{looks}
 use Rattle.meta_word.specs.declared.meta.Meta.{Meta}
@@ -14,7 +14,7 @@ use Rattle.stm_model.specs.Attempt.{Announce, Begin, Ready, Late, Stopped, ReadM
 use Rattle.stm_model.specs.CellsState.{Book, outer}
 use Rattle.stm_model.specs.Heap.{put, writes_to}
 use Rattle.stm_model.specs.Moves.{AwaitsAskAt, Begins, Does, EndsLate, Forgets, OutOfMemory, May, MayAbandon, MayAsk, Move, Takes, asked_at, asked_going, asked_stopped, conclude, did_first, enter_level, go_on, late_over_at, moved, read_buffered, read_noted, turn_to, undo_level, write_cell}
-use Rattle.stm_model.specs.Refusing.{deepest}
+use Rattle.stm_model.specs.Refusing.{IsOfBody, deepest}
 use Rattle.opacity.specs.Alone.{EndsByItself, IsOwn, IsUndisturbed}
 
 -- Where an attempt may stand that has this prefix, over so many entries and this metadata: nothing has come between.
@@ -46,14 +46,18 @@ pub record GoesAlone (n : ℕ) (meta : ℕ → Meta) (t : Attempt) : Type 0 wher
 some_own : (found : Option Cause) (cause : Cause) → found ≡ Some cause → IfSome found IsOwn → IsOwn cause
 some_own found cause is shown = subst (λ (o : Option Cause). IfSome o IsOwn) is shown
 
+body_own : (cause : Cause) → IsOfBody cause → IsOwn cause
+unfolding IsOwn
+body_own Retry own = tt
+body_own (User code) own = tt
+body_own Memory own = tt
+body_own (Full used blocks) own = tt
+body_own cause own = absurd own
+
 -- A body rolls back for its own causes, or the one that it was refused with.
 abandon_own : (t : Attempt) → IfSome (cause_at t.stage) IsOwn → (cause : Cause) → MayAbandon t cause → IsOwn cause
-unfolding MayAbandon IsOwn
-abandon_own t shown Retry able = tt
-abandon_own t shown (User code) able = tt
-abandon_own t shown Memory able = tt
-abandon_own t shown (Full used blocks) able = tt
-abandon_own t shown cause able = some_own (cause_at t.stage) cause able shown
+abandon_own t shown cause (inl own) = body_own cause own
+abandon_own t shown cause (inr refused) = some_own (cause_at t.stage) cause refused shown
 
 module _ (n : ℕ) (meta : ℕ → Meta) (t : Attempt) (calm : EndsByItself t.ending) where
   -- at a stage where nothing was refused

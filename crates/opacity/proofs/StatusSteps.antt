@@ -7,7 +7,8 @@ use Rattle.meta_word.specs.declared.status.TxnStatus.{TxnStatus}
 use Rattle.stm_model.specs.declared.cause.Cause.TheVariants.{Doomed}
 use Rattle.stm_model.specs.declared.ending.Ending.{Ending}
 use Rattle.stm_model.specs.Accesses.{active, next_at}
-use Rattle.stm_model.specs.After.{after_at, at, done, final_runs, mark_on, prepared, rolled, run_all, same_status}
+use Rattle.meta_word.specs.Status.{same_status}
+use Rattle.stm_model.specs.After.{after_at, at, done, final_runs, mark_on, prepared, rolled, run_all}
 use Rattle.stm_model.specs.Attempt.{cause_at, Announce, Attempt, Begin, Close, Ended, Prepare, Ready, Stage, Write, held_at, flies_at, unmarked_at, unstored_at}
 use Rattle.stm_model.specs.Evidence.{Evidence}
 use Rattle.stm_model.specs.Handlers.{preparing}

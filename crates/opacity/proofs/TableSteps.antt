@@ -6,13 +6,13 @@ use Rattle.std.proofs.lemmas.Bool.{cases_lt}
 use Rattle.std.proofs.lemmas.List.{get_or_past, length-set}
 use Rattle.std.proofs.lemmas.List.Elements.{All-set}
 use Rattle.std.proofs.lemmas.Nat.{and_le_l}
-use Rattle.stm_model.specs.Accesses.{Act, access_of, next}
+use Rattle.stm_model.specs.Accesses.{Act, access_of, next, word_of}
 use Rattle.stm_model.specs.History.{Entry}
 use Rattle.stm_model.specs.Safe.{Safe}
 use Rattle.stm_model.specs.World.{IsCaller, Terms, View, World, place_of, replaced, step, step_by, view_after, with_view, words_after, world_of}
 use Rattle.stm_model.specs.declared.access.Access.{Access}
 use Rattle.stm_model.specs.declared.access.Access.TheVariants.{ClearBits, Exchange, Load, SetBits, Store, Swap}
-use Rattle.opacity.specs.Words.{BringsWords, IsTable, effect, table_after, word_found, word_of}
+use Rattle.opacity.specs.Words.{BringsWords, IsTable, effect, table_after, word_found}
 use Rattle.opacity.proofs.Effects.{words_view}
 use Rattle.opacity.proofs.NextAccess.{good_next}
 use Rattle.opacity.proofs.WordSteps.{shows_after}

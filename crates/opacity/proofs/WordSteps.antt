@@ -4,16 +4,15 @@ use Rattle.std.proofs.lemmas.Bool.Decides.{nat_tests}
 use Rattle.std.proofs.lemmas.List.{set-get_or}
 use Rattle.meta_word.proofs.MetaLemmas.{meta_of-cleared, meta_of-meta_word, meta_of-or_changing, meta_of-or_pending, meta_word-meta_of}
 use Rattle.meta_word.proofs.StatusLemmas.{status_of-status_word, status_word-status_of}
-use Rattle.meta_word.specs.Meta.{MetaFits, meta_of, meta_word}
-use Rattle.meta_word.specs.Status.{StatusFits, status_of, status_word}
+use Rattle.meta_word.specs.Meta.{MetaFits, meta_of, meta_word, same_meta}
+use Rattle.meta_word.specs.Status.{StatusFits, status_of, status_word, same_status}
 use Rattle.meta_word.specs.declared.meta.Meta.{Meta}
 use Rattle.meta_word.specs.declared.status.TxnStatus.{TxnStatus}
-use Rattle.stm_model.specs.Accesses.{Act, ClearOwner, LoadClock, LoadMeta, LoadStatus, LoadValue, OfStatus, SetChanging, SetPending, StoreStatus, StoreValue, SwapMeta, ExchangeClock, ExchangeMeta, ExchangeStatus, access_of, answer_of}
+use Rattle.stm_model.specs.Accesses.{Act, ClearOwner, LoadClock, LoadMeta, LoadStatus, LoadValue, OfStatus, SetChanging, SetPending, StoreStatus, StoreValue, SwapMeta, ExchangeClock, ExchangeMeta, ExchangeStatus, access_of, answer_of, word_of}
 use Rattle.stm_model.specs.Attempt.{Attempt}
 use Rattle.stm_model.specs.History.{Entry}
-use Rattle.stm_model.specs.After.{same_meta, same_status}
 use Rattle.stm_model.specs.World.{IsCaller, Terms, View, World, cells_in, entry_of, found, place_of, with_meta, with_status, words_after, words_in, world_of}
-use Rattle.opacity.specs.Words.{FieldsFit, IsOfTable, IsTable, effect, table_after, word_found, word_of}
+use Rattle.opacity.specs.Words.{FieldsFit, IsOfTable, IsTable, effect, table_after, word_found}
 use Rattle.opacity.proofs.Acquires.{same_parts, same_pending, same_whole}
 use Rattle.opacity.proofs.Dooms.{status_same}
 use Rattle.opacity.proofs.ReadSteps.{same_number}

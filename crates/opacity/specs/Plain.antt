@@ -1,6 +1,6 @@
 -- The world as plain data.
 use Rattle.std.specs.Prelude.{◌≡◌, ◌≢◌, ◌⊎◌, ℕ, ◌+◌, ◌*◌, ◌-◌, ◌<◌, ◌≤◌, false, IfSome, IfNone, List, [], ◌∷◌, ◌++◌, length, map, slice_index, slice_index_or, Option, vec_capacity}
-use Rattle.stm_model.specs.Accesses.{Act, ExchangeClock, access_of}
+use Rattle.stm_model.specs.Accesses.{Act, ExchangeClock, access_of, word_of}
 use Rattle.stm_model.specs.After.{after_word}
 use Rattle.stm_model.specs.Attempt.{Attempt, is_in_flight}
 use Rattle.stm_model.specs.Heap.{AreWords}
@@ -11,7 +11,7 @@ use Rattle.stm_model.specs.declared.access.Access.{Access}
 use Rattle.stm_model.specs.declared.access.Access.TheVariants.{Exchange}
 use Rattle.stm_model.specs.declared.access.Word.TheVariants.{Clock}
 use Rattle.stm_model.specs.declared.note.Note.{Note}
-use Rattle.opacity.specs.Words.{FieldsFit, IsOfTable, IsTable, table_after, word_found, word_of}
+use Rattle.opacity.specs.Words.{FieldsFit, IsOfTable, IsTable, table_after, word_found}
 use Rattle.opacity.specs.declared.world.Committed.{Committed}
 
 -- what stays as it is

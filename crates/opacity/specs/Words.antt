@@ -3,22 +3,13 @@ use Rattle.std.specs.Prelude.{◌≡◌, ◌<◌, ◌^◌, ℕ, nat_eq, if◌the
 use Rattle.std.specs.Int.{bit_not, w64}
 use Rattle.meta_word.specs.Meta.{MetaFits}
 use Rattle.meta_word.specs.Status.{StatusFits}
-use Rattle.stm_model.specs.Accesses.{Act, StoreStatus, SwapMeta, ExchangeMeta, ExchangeStatus}
+use Rattle.stm_model.specs.Accesses.{word_of, Act, StoreStatus, SwapMeta, ExchangeMeta, ExchangeStatus}
 use Rattle.stm_model.specs.Heap.{AreWords}
 use Rattle.stm_model.specs.World.{IsCaller, Terms, cells_in, place_of, words_in}
 use Rattle.stm_model.specs.declared.access.Access.{Access}
 use Rattle.stm_model.specs.declared.access.Access.TheVariants.{ClearBits, Exchange, Load, SetBits, Store, Swap}
 use Rattle.stm_model.specs.declared.access.Word.{Word}
 use Rattle.stm_model.specs.declared.access.Word.TheVariants.{Clock, Meta as MetaOf, Status, Value}
-
--- the word that an access goes to
-unfoldable pub word_of : Access → Word
-word_of (Load word) = word
-word_of (Store word new) = word
-word_of (Swap word new) = word
-word_of (Exchange word old new) = word
-word_of (SetBits word mask) = word
-word_of (ClearBits word mask) = word
 
 -- what the access makes of what it finds there
 unfoldable pub effect : Access → ℕ → ℕ

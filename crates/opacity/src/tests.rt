@@ -15,7 +15,7 @@ fn two(rt: &HostRuntime) -> Result<World<Free>, Fail>
 }
 
 #[test]
-#[tactic(auto, unfolding(crate::specs::Words::IsOfTable, crate::specs::Words::word_of, crate::specs::Plain::IsUndecided))]
+#[tactic(auto, unfolding(crate::specs::Words::IsOfTable, stm_model::specs::Accesses::word_of, crate::specs::Plain::IsUndecided))]
 fn each_kind_of_access_changes_its_word(rt: HostRuntime) -> Result<(), Fail> {
     let mut world = two(&rt)?;
     let attempts = [Rest, Rest];
@@ -49,7 +49,7 @@ fn cell_of(owner: u16, version: u64) -> u64
 }
 
 #[test]
-#[tactic(auto, unfolding(crate::specs::Words::IsOfTable, crate::specs::Words::word_of, crate::specs::Plain::IsUndecided))]
+#[tactic(auto, unfolding(crate::specs::Words::IsOfTable, stm_model::specs::Accesses::word_of, crate::specs::Plain::IsUndecided))]
 fn a_write_is_committed(rt: HostRuntime) -> Result<(), Fail> {
     let mut world = World::new(rt.alloc(), Free, 1, 100, &[0])?;
     let attempts = [Rest];

@@ -1,8 +1,8 @@
 //! The laws of words: what an access does to the words of a table is what it does to the world that they show.
 ghost use Rattle.std.specs.Prelude.{◌≡◌, ◌⊎◌, ◌++◌, ◌∷◌, [], ℕ, List, Some, slice_index};
 ghost use Rattle.opacity.specs.Plain.{IsTableStep};
-ghost use Rattle.opacity.specs.Words.{BringsWords, FieldsFit, IsOfTable, IsTable, table_after, word_found, word_of};
-ghost use Rattle.stm_model.specs.Accesses.{Act, ExchangeClock, access_of, answer_of, next};
+ghost use Rattle.opacity.specs.Words.{BringsWords, FieldsFit, IsOfTable, IsTable, table_after, word_found};
+ghost use Rattle.stm_model.specs.Accesses.{Act, ExchangeClock, access_of, answer_of, next, word_of};
 ghost use Rattle.stm_model.specs.Attempt.{Attempt};
 ghost use Rattle.stm_model.specs.History.{Entry};
 ghost use Rattle.stm_model.specs.Safe.{Safe};

@@ -2,8 +2,8 @@
 ghost use Rattle.std.specs.Prelude.{◌≡◌, ◌+◌, ◌*◌, ◌<◌, ◌^◌, ◌≤◌, ◌++◌, ◌∷◌, ◌≢◌, ℕ, List, [], IfOk, OnErr, OnOk, Some, length, slice_index, slice_set, vec_capacity, IsOk};
 ghost use Rattle.meta_word.specs.declared.meta.TheConstants.{MAX_OWNER, MAX_VERSION};
 ghost use Rattle.opacity.specs.Plain.{HasRoom, AreAttempts, IsUndecided, OpensTo, ShowsSafe, entry_in, history_of, terms_of, writes_in};
-ghost use Rattle.opacity.specs.Words.{BringsWords, IsOfTable, effect, table_after, word_found, word_of};
-ghost use Rattle.stm_model.specs.Accesses.{LoadClock, SetPending, ExchangeClock, access_of, next, next_access};
+ghost use Rattle.opacity.specs.Words.{BringsWords, IsOfTable, effect, table_after, word_found};
+ghost use Rattle.stm_model.specs.Accesses.{LoadClock, SetPending, ExchangeClock, access_of, next, next_access, word_of};
 ghost use Rattle.stm_model.specs.Attempt.{Ended};
 ghost use Rattle.opacity.specs.Facts.{AreWords-prop};
 ghost use Rattle.stm_model.specs.Heap.{AreWords};
@@ -47,21 +47,6 @@ pub struct World<L: Law + Drop> {
     ghost short: { length opening.items < 2 ^ 32 },
     ghost each: { AreWords words.items } by { AreWords-prop words.items },
     ghost size: { length words.items ≡ callers + 1 + 2 * length opening.items },
-}
-
-/// The word that an access goes to.
-#[tactic(auto, unfolding(crate::specs::Words::word_of))]
-fn target(access: Access) -> Word
-    ensures { result ≡ word_of access }
-{
-    match access {
-        Access::Load(word) => word,
-        Access::Store(word, _) => word,
-        Access::Swap(word, _) => word,
-        Access::Exchange { word, .. } => word,
-        Access::SetBits(word, _) => word,
-        Access::ClearBits(word, _) => word,
-    }
 }
 
 /// What an access makes of the word that it finds.
@@ -210,7 +195,7 @@ impl<L: Law + Drop> World<L> {
         ensures callers { self.new.callers ≡ self.old.callers }
         ensures limit { self.new.limit ≡ self.old.limit }
     {
-        let place = self.place(target(access));
+        let place = self.place(access.word());
         let found = self.words[place];
         self.words[place] = made(access, found);
         found

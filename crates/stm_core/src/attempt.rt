@@ -45,7 +45,7 @@ impl Model for Attempt {
 
 impl Attempt {
     /// The attempt of this number among those of its caller, before its first access. The caller's number is at
-    /// most 2,047, the attempt's is below 2^62. It takes no memory yet.
+    /// most `MAX_OWNER`, the attempt's at most `MAX_SERIAL`. It takes no memory yet.
     pub fn begin(alloc: Global, own: u16, serial: u64, settings: Settings) -> Attempt
         requires own { own ≤ MAX_OWNER }
         requires serial { serial ≤ MAX_SERIAL }

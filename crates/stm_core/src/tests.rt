@@ -81,7 +81,7 @@ fn answer(rt: &impl Abort, attempt: &mut Attempt, word: u64)
 }
 
 // The attempt, which waits for it, is asked for something.
-#[tactic(auto, unfolding(crate::specs::Machine::IsToBeAsked, crate::specs::Machine::IsBuilt, stm_model::specs::Moves::MayAsk, stm_model::specs::Moves::MayAbandon))]
+#[tactic(auto, unfolding(crate::specs::Machine::IsToBeAsked, crate::specs::Machine::IsBuilt, stm_model::specs::Moves::MayAsk))]
 fn ask(rt: &impl Abort, attempt: &mut Attempt, ask: Ask)
     requires { attempt.old.attempt.settings.clock ≡ 9 }
     ensures { attempt.new.attempt.settings.clock ≡ 9 }

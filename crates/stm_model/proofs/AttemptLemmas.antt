@@ -4,14 +4,14 @@ use Rattle.std.proofs.lemmas.List.{append-nil, length-map}
 use Rattle.stm_model.specs.declared.access.Ask.{Ask}
 use Rattle.stm_model.specs.declared.access.Ask.TheVariants.{Abandon, Enter, Finish, Get, Hook, Keep, Later, Set, Undo}
 use Rattle.std.specs.Map.{lookup}
-use Rattle.meta_word.specs.Meta.{still_has}
+use Rattle.meta_word.specs.Meta.{still_has, same_meta}
 use Rattle.meta_word.specs.declared.meta.Meta.{Meta}
 use Rattle.stm_model.specs.declared.cause.Addr.{Addr}
 use Rattle.stm_model.specs.declared.note.Note.{Note}
 use Rattle.stm_model.specs.declared.cause.Cause.{Cause}
 use Rattle.stm_model.specs.declared.cause.HookPhase.{HookPhase}
 use Rattle.stm_model.specs.Accesses.{Answer, addr_of, next, next_at, unless_due}
-use Rattle.stm_model.specs.After.{after_at, answer_with, at, release_level_on, validated, note_of, exchanged, ring_if, rolled, run_all, same_meta}
+use Rattle.stm_model.specs.After.{after_at, answer_with, at, release_level_on, validated, note_of, exchanged, ring_if, rolled, run_all}
 use Rattle.stm_model.specs.Attempt.{Attempt, Due, Run, Stage, Ready, Late, Stopped, Ended, cause_at, cells_of}
 use Rattle.stm_model.specs.CellsState.{Book, CellsState, late_registered, entered, hooked, kept, level_runs, undone, written}
 use Rattle.stm_model.specs.Handlers.{Handlers}

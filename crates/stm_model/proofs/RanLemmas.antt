@@ -7,7 +7,8 @@ use Rattle.stm_model.specs.Owes.{IsPossible, Owes}
 use Rattle.stm_model.specs.CellsState.{Book, CellsState, entered, kept, undone, outer, restored}
 use Rattle.stm_model.specs.Handlers.{undoing}
 use Rattle.stm_model.specs.Telling.{Changed, Extends, Owing, Enters, Refused, Leads, Writing}
-use Rattle.stm_model.specs.Ran.{Grows, IsDecided, IsOfBody, Ran, Running}
+use Rattle.stm_model.specs.Refusing.{IsOfBody}
+use Rattle.stm_model.specs.Ran.{Grows, IsDecided, Ran, Running}
 use Rattle.stm_model.proofs.CellsLemmas.{Extends-refl, Extends-same, Extends-append, Extends-trans, IsPossible-before, Owes-later, none_before, length-outer, restored-going}
 
 pub Grows-refl : (book : Book) → Grows book book

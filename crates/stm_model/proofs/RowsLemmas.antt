@@ -1,5 +1,5 @@
 -- Whether a schedule may happen, by a test that is run along with it.
-use Rattle.std.proofs.Common.{◌≡◌, ℕ, ◌^◌, ◌<◌, ◌≤◌, Bool, true, false, ◌&&◌, List, [], ◌∷◌, nat_eq, nat_lt, nat_le, arith, refl, ap}
+use Rattle.std.proofs.Common.{◌≡◌, ℕ, ◌^◌, ◌<◌, ◌≤◌, Bool, true, false, ◌&&◌, List, [], ◌∷◌, nat_eq, nat_lt, nat_le, arith, refl, ap, inl, inr, Some}
 use Rattle.std.proofs.lemmas.Bool.Decides.{nat_tests}
 use Rattle.meta_word.specs.declared.meta.Meta.{Meta}
 use Rattle.meta_word.specs.declared.policy.Policy.{Policy}
@@ -10,7 +10,8 @@ use Rattle.stm_model.specs.declared.cause.Addr.{Addr}
 use Rattle.stm_model.specs.declared.cause.Cause.{Cause}
 use Rattle.stm_model.specs.declared.cause.Cause.TheVariants.{ReadConflict, Stale, WriteConflict}
 use Rattle.stm_model.specs.Accesses.{addr_of, next_at}
-use Rattle.stm_model.specs.After.{acquiring, after_at, validate_on, note_validated, decided, extended, final_runs, meta_read, validated, owner_status_loaded, owner_validated, exchanged, prepared, same_bool, same_but_pending, same_meta}
+use Rattle.meta_word.specs.Meta.{same_bool, same_but_pending, same_meta}
+use Rattle.stm_model.specs.After.{acquiring, after_at, validate_on, note_validated, decided, extended, final_runs, meta_read, validated, owner_status_loaded, owner_validated, exchanged, prepared}
 use Rattle.stm_model.specs.Attempt.{Attempt, Due, Ended, Late, Ready, Stage, Stopped, cause_at}
 use Rattle.stm_model.specs.Moves.{Begins, May, MayAbandon, MayAsk, Move, Takes, AwaitsAskAt, asked_at, asked_going, asked_stopped, moved}
 use Rattle.stm_model.specs.Rows.{settings_of, terms_of}
@@ -125,24 +126,27 @@ addrs : (a b : Addr) → a.0 ≡ b.0 → a ≡ b
 addrs a b h = ap (λ (cell : ℕ). addr_of cell) h
 
 may_abandon : (t : Attempt) (stage : Stage) (cause : Cause) → t.stage ≡ stage → is_cause stage cause ≡ true → MayAbandon t cause
-unfolding MayAbandon cause_at
+unfolding cause_at
 may_abandon t (Stopped (ReadConflict a m)) (ReadConflict b n) e h =
     let h = both _ _ h in
     let addr = addrs a b (numbers _ _ h.0) in
     let meta = metas m n h.1 in
-    cc
+    let is : cause_at t.stage ≡ Some (ReadConflict b n) = cc in
+    inr is
 may_abandon t (Stopped (WriteConflict a m)) (WriteConflict b n) e h =
     let h = both _ _ h in
     let addr = addrs a b (numbers _ _ h.0) in
     let meta = metas m n h.1 in
-    cc
+    let is : cause_at t.stage ≡ Some (WriteConflict b n) = cc in
+    inr is
 may_abandon t (Stopped (Stale a version m)) (Stale b other n) e h =
     let h = both _ _ h in
     let k = both _ _ h.1 in
     let addr = addrs a b (numbers _ _ h.0) in
     let same = numbers version other k.0 in
     let meta = metas m n k.1 in
-    cc
+    let is : cause_at t.stage ≡ Some (Stale b other n) = cc in
+    inr is
 may_abandon t _ _ e h = cc
 
 asks : (size : ℕ) (t : Attempt) (ask : Ask) → may_ask size t ask ≡ true → MayAsk size t ask

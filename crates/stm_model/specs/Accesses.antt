@@ -132,3 +132,12 @@ answer_of (ExchangeStatus caller old new) word = OfStatus (status_of word)
 answer_of (LoadValue cell) word = Number word
 answer_of (StoreValue cell value) word = Number word
 answer_of _ word = OfMeta (meta_of word)
+
+-- the word that an access goes to
+unfoldable pub word_of : Access → Word
+word_of (Load word) = word
+word_of (Store word new) = word
+word_of (Swap word new) = word
+word_of (Exchange word old new) = word
+word_of (SetBits word mask) = word
+word_of (ClearBits word mask) = word

@@ -1,9 +1,9 @@
 -- What an attempt makes of the answer to its access. Here t is an attempt.
 use Rattle.std.specs.Prelude.{ℕ, zero, suc, Bool, true, false, not, ◌&&◌, nat_eq, nat_lt, if◌then◌else◌, List, [], ◌∷◌, ◌++◌, map, Option, Some, None}
 use Rattle.std.specs.List.{find}
-use Rattle.meta_word.specs.Meta.{changing_by_another, owned_by_another, still_has}
+use Rattle.meta_word.specs.Meta.{changing_by_another, owned_by_another, same_but_pending, same_meta, still_has}
 use Rattle.meta_word.specs.Policy.{dooms}
-use Rattle.meta_word.specs.Status.{phase_number}
+use Rattle.meta_word.specs.Status.{same_status}
 use Rattle.meta_word.specs.declared.meta.Meta.{Meta}
 use Rattle.meta_word.specs.declared.status.Phase.{Phase}
 use Rattle.meta_word.specs.declared.status.Phase.TheVariants.{Active, Idle, Preparing}
@@ -25,23 +25,6 @@ at t stage = record t { stage = stage }
 
 -- ---- words that were found
 
-abbrev pub same_bool : Bool → Bool → Bool
-same_bool true other = other
-same_bool false other = not other
-
--- the same but for the pending bit
-abbrev pub same_but_pending : Meta → Meta → Bool
-same_but_pending meta other =
-    same_bool meta.changing other.changing && (nat_eq meta.owner other.owner && nat_eq meta.version other.version)
-
--- the same word
-abbrev pub same_meta : Meta → Meta → Bool
-same_meta meta other = same_but_pending meta other && same_bool meta.pending other.pending
-
--- the same status
-abbrev pub same_status : TxnStatus → TxnStatus → Bool
-same_status status other = nat_eq status.serial other.serial && nat_eq (phase_number status.phase) (phase_number other.phase)
-
 -- the status is that of an attempt that can be doomed
 abbrev pub is_active : Phase → Bool
 is_active Active = true
@@ -50,6 +33,10 @@ is_active _ = false
 -- the note of a cell
 abbrev pub note_of : List Note → ℕ → Option Note
 note_of notes cell = find (λ note. nat_eq note.addr.0 cell) notes
+
+-- the cause of who finds that a noted cell no longer stands as it was noted
+abbrev pub stale : Note → Meta → Cause
+stale note found = Stale note.addr note.version found
 
 -- ---- what comes due
 
@@ -109,7 +96,7 @@ unfoldable pub extended : Attempt → ℕ → ℕ → Meta → ℕ → Note → 
 extended t cell left first clock note behind found =
     if still_has t.own note.version found
     then extend_on t cell left first clock behind
-    else stopped t (Stale note.addr note.version found)
+    else stopped t (stale note found)
 
 -- A second look: the value is noted where the cell still stands as at the first.
 unfoldable pub validated : Attempt → ℕ → ℕ → Meta → ℕ → Meta → Attempt
@@ -152,7 +139,7 @@ meta_acquired t cell value left tried None first = acquiring t cell value left t
 meta_acquired t cell value left tried (Some note) first =
     if nat_eq note.version first.version
     then acquiring t cell value left tried first
-    else stopped t (Stale note.addr note.version first)
+    else stopped t (stale note first)
 
 -- Who won the exchange owns the cell and writes it. An exchange lost to the pending bit alone is tried once more.
 unfoldable pub exchanged : Attempt → ℕ → ℕ → ℕ → Bool → Meta → Meta → Bool → Meta → Attempt
@@ -215,7 +202,7 @@ unfoldable pub note_validated : Attempt → ℕ → ℕ → Note → List Note �
 note_validated t lost clock note behind found =
     if still_has t.own note.version found
     then validate_on t lost clock behind
-    else rolled t (Stale note.addr note.version found)
+    else rolled t (stale note found)
 
 -- Each cell is released. Then the status is stored.
 abbrev pub release_on : Attempt → List Write → Attempt

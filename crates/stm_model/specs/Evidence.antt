@@ -6,7 +6,7 @@ use Rattle.meta_word.specs.declared.status.Phase.TheVariants.{Doomed as IsDoomed
 use Rattle.stm_model.specs.declared.cause.Cause.{Cause}
 use Rattle.stm_model.specs.declared.cause.Cause.TheVariants.{AttemptsEnd, ClockEnd, ClockMoved, Doomed, Full, Memory, Moved, ReadConflict, Retry, Stale, TooDeep, User, WriteConflict}
 use Rattle.stm_model.specs.declared.settings.Settings.{Settings}
-use Rattle.stm_model.specs.Refusing.{deepest}
+use Rattle.stm_model.specs.Refusing.{IsFull, IsTooDeep}
 
 -- Between two looks the cell was written, or another began to change it, or another that owned it has let it go.
 abbrev pub HasMoved : ℕ → Meta → Meta → Type 0
@@ -28,8 +28,8 @@ Evidence own settings (WriteConflict addr meta) = IsTrue (owned_by_another own m
 Evidence own settings (Doomed status) = status.phase ≡ IsDoomed
 Evidence own settings (ClockMoved first second) = first < second
 Evidence own settings (ClockEnd clock) = clock ≡ settings.clock
-Evidence own settings (Full used blocks) = used ≡ blocks
-Evidence own settings (TooDeep depth) = depth ≡ deepest
+Evidence own settings (Full used blocks) = IsFull used blocks
+Evidence own settings (TooDeep depth) = IsTooDeep depth
 Evidence own settings (AttemptsEnd serial) = serial ≡ settings.attempts
 Evidence own settings Retry = Unit {0}
 Evidence own settings (User code) = Unit {0}

@@ -1,12 +1,12 @@
 -- The moves of an attempt that touch no shared word. Here t is an attempt.
-use Rattle.std.specs.Prelude.{◌≡◌, ℕ, suc, ◌^◌, ◌<◌, ◌≤◌, false, nat_eq, nat_lt, if◌then◌else◌, IsFalse, List, [], ◌∷◌, ◌++◌, length, drop, Option, Some, None}
+use Rattle.std.specs.Prelude.{◌≡◌, ℕ, suc, ◌^◌, ◌<◌, ◌≤◌, ◌⊎◌, false, nat_eq, nat_lt, if◌then◌else◌, IsFalse, List, [], ◌∷◌, ◌++◌, length, drop, Option, Some, None}
 use Rattle.std.specs.Map.{lookup}
 use Rattle.meta_word.specs.Policy.{looks}
 use Rattle.meta_word.specs.declared.status.TheConstants.{MAX_SERIAL}
 use Rattle.stm_model.specs.declared.access.Ask.{Ask}
 use Rattle.stm_model.specs.declared.access.Ask.TheVariants.{Get, Set, Enter, Keep, Undo, Hook, Later, Finish, Abandon}
 use Rattle.stm_model.specs.declared.cause.Cause.{Cause}
-use Rattle.stm_model.specs.declared.cause.Cause.TheVariants.{Full, Memory, Retry, TooDeep, User}
+use Rattle.stm_model.specs.declared.cause.Cause.TheVariants.{Memory, TooDeep}
 use Rattle.stm_model.specs.declared.ending.Ending.TheVariants.{Read}
 use Rattle.stm_model.specs.declared.note.Note.{Note}
 use Rattle.stm_model.specs.declared.settings.Settings.{Settings}
@@ -15,7 +15,7 @@ use Rattle.stm_model.specs.Attempt.{AcquireMeta, Announce, Attempt, Close, Due, 
 use Rattle.stm_model.specs.CellsState.{Book, outer}
 use Rattle.stm_model.specs.Handlers.{committing, preparing}
 use Rattle.stm_model.specs.Heap.{put, writes_to}
-use Rattle.stm_model.specs.Refusing.{deepest}
+use Rattle.stm_model.specs.Refusing.{IsOfBody, deepest}
 
 -- ---- the asks of a body
 
@@ -155,12 +155,8 @@ pub record AwaitsAsk (t : Attempt) : Type 0 where
   pub nothing_due : t.due ≡ []
 
 -- A body rolls back for causes of its own, and for the one that it was refused with.
-unfoldable pub MayAbandon : Attempt → Cause → Type 0
-MayAbandon t Retry = Unit {0}
-MayAbandon t (User code) = Unit {0}
-MayAbandon t Memory = Unit {0}
-MayAbandon t (Full used blocks) = used ≡ blocks
-MayAbandon t cause = cause_at t.stage ≡ Some cause
+abbrev pub MayAbandon : Attempt → Cause → Type 0
+MayAbandon t cause = IsOfBody cause ⊎ (cause_at t.stage ≡ Some cause)
 
 -- An ask may come: it names a cell of the heap, closes a level that is open, ends the body itself, or rolls back for such a cause.
 unfoldable pub MayAsk : ℕ → Attempt → Ask → Type 0

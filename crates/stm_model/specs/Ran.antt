@@ -1,18 +1,11 @@
 -- What a run of a body on cells promises.
 use Rattle.std.specs.Prelude.{◌≡◌, ℕ, ◌≤◌, ◌⊎◌, List, length, Some, None, Result, Ok, Err, IfOk, IfErr}
 use Rattle.stm_model.specs.declared.cause.Cause.{Cause}
-use Rattle.stm_model.specs.declared.cause.Cause.TheVariants.{Retry, User, Full, Memory}
+use Rattle.stm_model.specs.declared.cause.Cause.TheVariants.{Memory}
 use Rattle.stm_model.specs.CellsState.{Book, CellsState}
 use Rattle.stm_model.specs.Owes.{IsPossible, Owes}
+use Rattle.stm_model.specs.Refusing.{IsOfBody}
 use Rattle.stm_model.specs.Telling.{Extends, Leads}
-
--- the causes that a body answers of its own
-abbrev pub IsOfBody : Cause → Type 0
-IsOfBody Retry = Unit {0}
-IsOfBody (User code) = Unit {0}
-IsOfBody (Full used blocks) = used ≡ blocks
-IsOfBody Memory = Unit {0}
-IsOfBody _ = ⊥
 
 -- an answer that the heap decides: each one but want of memory
 abbrev pub IsDecided : {T : Type 0} → Result T Cause → Type 0

@@ -3,7 +3,7 @@ use Rattle.std.specs.Prelude.{◌≡◌, ◌≢◌, ℕ, ◌<◌, ◌≤◌, ◌
 use Rattle.std.specs.List.{All, Any}
 use Rattle.stm_model.specs.declared.cause.Addr.{Addr}
 use Rattle.stm_model.specs.declared.cause.Cause.{Cause}
-use Rattle.stm_model.specs.declared.cause.Cause.TheVariants.{ReadConflict, Moved, Stale, WriteConflict, TooDeep, Memory}
+use Rattle.stm_model.specs.declared.cause.Cause.TheVariants.{ReadConflict, Moved, Stale, WriteConflict, TooDeep, Retry, User, Full, Memory}
 use Rattle.stm_model.specs.declared.marks.TheConstants.{DEEPEST}
 use Rattle.stm_model.specs.declared.note.Note.{Note}
 use Rattle.stm_model.specs.CellsState.{CellsState}
@@ -13,13 +13,29 @@ use Rattle.stm_model.specs.Heap.{writes_to}
 abbrev pub deepest : ℕ
 deepest = DEEPEST
 
+-- As many levels are open as may be.
+abbrev pub IsTooDeep : ℕ → Type 0
+IsTooDeep depth = depth ≡ deepest
+
+-- All blocks are in use.
+abbrev pub IsFull : (used blocks : ℕ) → Type 0
+IsFull used blocks = used ≡ blocks
+
+-- The causes that a body answers of its own.
+abbrev pub IsOfBody : Cause → Type 0
+IsOfBody Retry = Unit {0}
+IsOfBody (User code) = Unit {0}
+IsOfBody (Full used blocks) = IsFull used blocks
+IsOfBody Memory = Unit {0}
+IsOfBody _ = ⊥
+
 -- The causes that cells answer. All others come from a body or from the end of an attempt.
 abbrev pub IsOfCells : Cause → Type 0
 IsOfCells (ReadConflict cell meta) = Unit {0}
 IsOfCells (Moved cell first second) = Unit {0}
 IsOfCells (Stale cell version meta) = Unit {0}
 IsOfCells (WriteConflict cell meta) = Unit {0}
-IsOfCells (TooDeep depth) = depth ≡ deepest
+IsOfCells (TooDeep depth) = IsTooDeep depth
 IsOfCells Memory = Unit {0}
 IsOfCells _ = ⊥
 

@@ -2,7 +2,7 @@
 use Rattle.std.specs.Prelude.{◌≡◌, ℕ, suc, ◌-◌, ◌^◌, ◌<◌, ◌≤◌, ◌⊎◌, Bool, nat_eq, if◌then◌else◌, IsTrue, IsFalse, List, [], ◌∷◌, ◌++◌, length, slice_index, IfSome, Option, Some, None}
 use Rattle.std.specs.List.{All}
 use Rattle.std.specs.Map.{keys_of, values_of}
-use Rattle.meta_word.specs.Meta.{changing_by_another, owned_by_another}
+use Rattle.meta_word.specs.Meta.{changing_by_another, owned_by_another, same_but_pending}
 use Rattle.meta_word.specs.declared.meta.Meta.{Meta}
 use Rattle.meta_word.specs.declared.meta.TheConstants.{MAX_OWNER, MAX_VERSION}
 use Rattle.meta_word.specs.declared.status.Phase.{Phase}
@@ -14,7 +14,7 @@ use Rattle.stm_model.specs.declared.cause.Cause.TheVariants.{Stale}
 use Rattle.stm_model.specs.declared.ending.Ending.{Ending}
 use Rattle.stm_model.specs.declared.ending.Ending.TheVariants.{Committed, Read, Rolled}
 use Rattle.stm_model.specs.declared.note.Note.{Note}
-use Rattle.stm_model.specs.After.{note_of, same_but_pending}
+use Rattle.stm_model.specs.After.{note_of}
 use Rattle.stm_model.specs.Attempt.{Attempt, Stage, Write, Announce, Begin, ReadMeta, ExtendClock, ExtendNote, ReadValue, Validate, AcquireMeta, Acquire, OwnerStatus, OwnerMeta, DoomOwner, ReleaseLevel, Mark, Prepare, CommitClock, CommitNote, Decide, StoreValues, Release, RollBack, Close, Ended, cause_at, holds, marks, stamp_of, unstored_at}
 use Rattle.stm_model.specs.CellsState.{Book, empty_book}
 use Rattle.stm_model.specs.Evidence.{Evidence}

@@ -1,7 +1,7 @@
 -- The shared words with their history and all callers, and a step of one of them. Here w is a world, p a caller's number and t an attempt.
 use Rattle.std.specs.Prelude.{◌≡◌, ℕ, suc, ◌+◌, ◌*◌, ◌<◌, ◌≤◌, true, false, ◌||◌, nat_eq, nat_lt, if◌then◌else◌, List, [], ◌∷◌, ◌++◌, length, slice_index, Option, Some, None}
-use Rattle.meta_word.specs.Meta.{meta_of}
-use Rattle.meta_word.specs.Status.{status_of}
+use Rattle.meta_word.specs.Meta.{meta_of, same_meta}
+use Rattle.meta_word.specs.Status.{status_of, same_status}
 use Rattle.meta_word.specs.declared.meta.Meta.{Meta}
 use Rattle.meta_word.specs.declared.status.Phase.TheVariants.{Idle}
 use Rattle.meta_word.specs.declared.status.TxnStatus.{TxnStatus}
@@ -9,7 +9,7 @@ use Rattle.stm_model.specs.declared.access.Word.{Word}
 use Rattle.stm_model.specs.declared.access.Word.TheVariants.{Clock, Status, Meta as MetaOf, Value}
 use Rattle.stm_model.specs.declared.settings.Settings.{Settings}
 use Rattle.stm_model.specs.Accesses.{Act, Answer, ClearOwner, LoadClock, LoadMeta, LoadStatus, LoadValue, Number, OfMeta, OfStatus, SetChanging, SetPending, StoreStatus, StoreValue, SwapMeta, ExchangeClock, ExchangeMeta, ExchangeStatus, next, released}
-use Rattle.stm_model.specs.After.{after, same_meta, same_status}
+use Rattle.stm_model.specs.After.{after}
 use Rattle.stm_model.specs.Attempt.{Announce, Attempt, Ended, Stage, no_attempt}
 use Rattle.stm_model.specs.History.{Entry}
 use Rattle.stm_model.specs.Moves.{May, Move, moved}

@@ -1,4 +1,6 @@
 //! The shared words of a table, the accesses to them, and what a running transaction is asked to do.
+ghost use Rattle.std.specs.Prelude.{◌≡◌};
+ghost use Rattle.stm_model.specs.Accesses.{word_of};
 
 use crate::{Addr, Cause, HookPhase};
 
@@ -27,6 +29,23 @@ pub enum Access {
     SetBits(Word, u64),
     /// Clears the bits of the mask.
     ClearBits(Word, u64),
+}
+
+impl Access {
+    /// The word that the access goes to.
+    #[tactic(auto, unfolding(crate::specs::Accesses::word_of))]
+    pub fn word(self) -> Word
+        ensures { result ≡ word_of self }
+    {
+        match self {
+            Access::Load(word)
+            | Access::Store(word, _)
+            | Access::Swap(word, _)
+            | Access::SetBits(word, _)
+            | Access::ClearBits(word, _)
+            | Access::Exchange { word, .. } => word,
+        }
+    }
 }
 
 /// What a transaction is asked to do next.

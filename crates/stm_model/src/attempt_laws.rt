@@ -2,7 +2,7 @@
 ghost use Rattle.std.specs.Prelude.{◌≡◌, ◌<◌, ◌↔◌, ◌⊎◌, ◌++◌, ◌∷◌, [], ℕ, Bool, List, nat_eq, Ok, Option, Some, None, length, replicate, IsTrue};
 ghost use Rattle.stm_model.specs.declared.access.Ask.TheVariants.{Abandon, Enter, Finish, Get, Hook, Keep, Later, Set, Undo};
 ghost use Rattle.std.specs.Map.{lookup};
-ghost use Rattle.meta_word.specs.Meta.{still_has};
+ghost use Rattle.meta_word.specs.Meta.{still_has, same_meta};
 ghost use Rattle.meta_word.specs.declared.meta.Meta.{Meta};
 ghost use Rattle.stm_model.specs.declared.cause.Addr.{Addr};
 ghost use Rattle.stm_model.specs.declared.note.Note.{Note};
@@ -10,7 +10,7 @@ ghost use Rattle.stm_model.specs.declared.cause.Cause.{Cause};
 ghost use Rattle.stm_model.specs.declared.cause.HookPhase.{HookPhase};
 ghost use Rattle.stm_model.specs.declared.access.Ask.{Ask};
 ghost use Rattle.stm_model.specs.Accesses.{Answer, addr_of, next};
-ghost use Rattle.stm_model.specs.After.{after, answer_with, release_level_on, validated, note_of, exchanged, ring_if, rolled, run_all, same_meta};
+ghost use Rattle.stm_model.specs.After.{after, answer_with, release_level_on, validated, note_of, exchanged, ring_if, rolled, run_all};
 ghost use Rattle.stm_model.specs.Attempt.{Attempt, Ended, Ready, cause_at, cells_of};
 ghost use Rattle.stm_model.specs.CellsState.{Book, empty_book, late_registered, entered, hooked, kept, undone, written};
 ghost use Rattle.stm_model.specs.Handlers.{Handlers};

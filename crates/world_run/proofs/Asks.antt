@@ -21,10 +21,10 @@ built_of size (Abandon cause) taken = tt
 built_of size ask taken = absurd taken
 
 abandons : (t : Attempt) (cause : Cause) → IsBodys cause → MayAbandon t cause
-unfolding IsBodys MayAbandon
-abandons t Retry bodys = tt
-abandons t (User code) bodys = tt
-abandons t Memory bodys = tt
+unfolding IsBodys
+abandons t Retry bodys = inl tt
+abandons t (User code) bodys = inl tt
+abandons t Memory bodys = inl tt
 abandons t cause bodys = absurd bodys
 
 may_ask : (size limit : ℕ) (t : Attempt) (ask : Ask) → size ≤ limit → t.turn ≡ 0 → IsTaken size ask → MayAsk limit t ask

@@ -5,7 +5,8 @@ use Rattle.meta_word.specs.declared.status.Phase.TheVariants.{Preparing}
 use Rattle.opacity.proofs.Places.{attempt_here}
 use Rattle.stm_core.specs.Machine.{next_of}
 use Rattle.stm_model.specs.Accesses.{Act, Answer, Number, OfMeta, OfStatus, active, next, next_at, unless_due}
-use Rattle.stm_model.specs.After.{after_at, validate_on, note_validated, decided, mark_on, prepared, release_on, ring_if, roll_on, rolled, run_all, same_status, store_on}
+use Rattle.meta_word.specs.Status.{same_status}
+use Rattle.stm_model.specs.After.{after_at, validate_on, note_validated, decided, mark_on, prepared, release_on, ring_if, roll_on, rolled, run_all, store_on}
 use Rattle.stm_model.specs.Attempt.{Attempt, Due, Run, Ring, Stage, Write, Announce, Begin, Ready, Late, Stopped, ReadMeta, ExtendClock, ExtendNote, ReadValue, Validate, AcquireMeta, Acquire, OwnerStatus, OwnerMeta, DoomOwner, ReleaseLevel, Prepare, Mark, CommitClock, CommitNote, Decide, StoreValues, Release, RollBack, Close, Ended}
 use Rattle.stm_model.specs.Handlers.{committing, preparing}
 use Rattle.stm_model.specs.Moves.{AwaitsAsk, AwaitsAskAt, Does, Takes, asked_at, asked_going, asked_stopped, conclude, did_first, moved, turn_to}

@@ -1,14 +1,15 @@
 -- Attempts that use no levels, handlers or late bodies stay so.
 use Rattle.std.proofs.Common.{◌≡◌, ℕ, zero, suc, ◌≤◌, Bool, true, false, not, ◌&&◌, nat_eq, nat_lt, List, [], ◌∷◌, ◌++◌, length, drop, Option, Some, None, refl, if◌then◌else◌, arith, append-nil}
 use Rattle.std.specs.Map.{lookup}
-use Rattle.meta_word.specs.Meta.{changing_by_another, owned_by_another, still_has}
+use Rattle.meta_word.specs.Meta.{changing_by_another, owned_by_another, still_has, same_but_pending, same_meta}
 use Rattle.meta_word.specs.declared.meta.Meta.{Meta}
 use Rattle.meta_word.specs.declared.status.Phase.TheVariants.{Preparing}
 use Rattle.meta_word.specs.declared.status.TxnStatus.{TxnStatus}
 use Rattle.stm_core.specs.Machine.{IsBuilt}
 use Rattle.stm_model.specs.Accesses.{Act, Answer, Number, OfMeta, OfStatus, active, answer_of, next_at, unless_due}
 use Rattle.meta_word.specs.Policy.{dooms}
-use Rattle.stm_model.specs.After.{meta_acquired, acquiring, after_at, after_found, after_word, validate_on, note_validated, decided, extend_on, extended, final_runs, release_level_on, is_active, read_again, meta_read, validated, mark_on, note_of, owner_status_loaded, owner_validated, exchanged, prepared, release_on, ring_if, roll_on, rolled, run_all, same_but_pending, same_meta, same_status, store_on, acquire_again}
+use Rattle.meta_word.specs.Status.{same_status}
+use Rattle.stm_model.specs.After.{meta_acquired, acquiring, after_at, after_found, after_word, validate_on, note_validated, decided, extend_on, extended, final_runs, release_level_on, is_active, read_again, meta_read, validated, mark_on, note_of, owner_status_loaded, owner_validated, exchanged, prepared, release_on, ring_if, roll_on, rolled, run_all, store_on, acquire_again}
 use Rattle.stm_model.specs.Attempt.{Attempt, Due, Run, Ring, Stage, Write, Announce, Begin, Ready, Late, Stopped, ReadMeta, ExtendClock, ExtendNote, ReadValue, Validate, AcquireMeta, Acquire, OwnerStatus, OwnerMeta, DoomOwner, ReleaseLevel, Prepare, Mark, CommitClock, CommitNote, Decide, StoreValues, Release, RollBack, Close}
 use Rattle.stm_model.specs.CellsState.{Book, level_runs, outer, returned}
 use Rattle.stm_model.specs.Handlers.{Handlers, committing, preparing}

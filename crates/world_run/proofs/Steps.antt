@@ -2,12 +2,12 @@
 use Rattle.std.proofs.Common.{◌≡◌, ℕ, ◌-◌, ◌<◌, ◌≤◌, List, Option, Some, None, IfNone, IfSome, Bool, true, false, ap, sym, ◌∙◌, refl, subst, length, get_or, arith, if◌then◌else◌}
 use Rattle.std.proofs.lemmas.Grind.{common_steps}
 use Rattle.opacity.specs.Plain.{AreAttempts}
-use Rattle.opacity.specs.Words.{IsOfTable, word_found, word_of}
+use Rattle.opacity.specs.Words.{IsOfTable, word_found}
 use Rattle.opacity.proofs.NextAccess.{good_next}
 use Rattle.opacity.proofs.Places.{attempt_here}
 use Rattle.opacity.proofs.WordSteps.{found_word}
 use Rattle.stm_core.specs.Machine.{ClockFits, Machine, in_flight}
-use Rattle.stm_model.specs.Accesses.{Act, Answer, LoadClock, ExchangeClock, access_of, next}
+use Rattle.stm_model.specs.Accesses.{Act, Answer, LoadClock, ExchangeClock, access_of, next, word_of}
 use Rattle.stm_model.specs.After.{after, after_found, after_word}
 use Rattle.stm_model.specs.Attempt.{Attempt, flies_at, is_in_flight}
 use Rattle.stm_model.specs.History.{Entry}

@@ -2,12 +2,12 @@
 use Rattle.std.proofs.Common.{◌≡◌, ℕ, suc, ◌+◌, ◌-◌, ◌<◌, ◌≤◌, List, [], ◌∷◌, length, get_or, set, Option, Some, None, ap, sym, ◌∙◌, refl, subst, arith}
 use Rattle.std.proofs.lemmas.Grind.{common_steps}
 use Rattle.opacity.specs.Plain.{AreAttempts, ShowsSafe, terms_of, writes_in}
-use Rattle.opacity.specs.Words.{IsOfTable, word_found, word_of}
+use Rattle.opacity.specs.Words.{IsOfTable, word_found}
 use Rattle.stm_core.specs.Machine.{ClockFits, Machine, after_due, next_of, standing}
 use Rattle.op_commit.specs.Buffered.{buffered}
 use Rattle.stm_core.specs.declared.next.Next.TheVariants as coming
 use Rattle.meta_word.specs.declared.meta.TheConstants.{MAX_VERSION}
-use Rattle.stm_model.specs.Accesses.{Act, ExchangeClock, access_of, next, next_at}
+use Rattle.stm_model.specs.Accesses.{Act, ExchangeClock, access_of, next, next_at, word_of}
 use Rattle.stm_model.specs.After.{after_word}
 use Rattle.stm_model.specs.Attempt.{Announce, Attempt, Ended, Write, no_attempt}
 use Rattle.stm_model.specs.History.{Entry}

@@ -1,7 +1,7 @@
 -- The place of a cell's write.
 use Rattle.std.proofs.Common.{◌≡◌, ◌≢◌, ℕ, zero, suc, ◌<◌, true, false, nat_eq, List, [], ◌∷◌, ◌++◌, length, get_or, set, slice_get, Option, Some, None, is_some, refl, sym, ap, ◌∙◌, inl, inr, arith}
 use Rattle.std.specs.Prelude.{MatchOption}
-use Rattle.std.specs.List.{All, AllByRecursion, InvariantAt, IsDistinct}
+use Rattle.std.specs.List.{All, AllByRecursion, HoldsAt, IsDistinct}
 use Rattle.std.specs.Map.{keys_of, lookup}
 use Rattle.std.proofs.lemmas.Bool.Decides.{eqb_tells, nat_tests}
 use Rattle.std.proofs.lemmas.Cmp.{nat_eq_equiv}
@@ -26,7 +26,7 @@ lookup_none (write ∷ writes) address none = elim (eqb_tells address write.0) [
   | inr other ↦ rw other.0 (lookup_none writes address (All-tail (λ w. w.0 ≢ address) write writes none))
 ]
 
-written_here : (writes : List (ℕ × ℕ)) (index address : ℕ) → index < length writes → InvariantAt (λ write. write.0 ≡ address) writes index → writes_to writes address ≡ true
+written_here : (writes : List (ℕ × ℕ)) (index address : ℕ) → index < length writes → HoldsAt (λ write. write.0 ≡ address) writes index → writes_to writes address ≡ true
 written_here [] index address within here = absurd (omega arith)
 written_here (write ∷ writes) zero address within here =
     let key : write.0 ≡ address = here write in
@@ -39,7 +39,7 @@ written_here (write ∷ writes) (suc index) address within here = elim (eqb_tell
 
 -- whether a cell is written, by the search for its place
 pub written_by_place : (writes : List (ℕ × ℕ)) (address : ℕ) (place : Option ℕ)
-    → MatchOption place (All (λ write. write.0 ≢ address) writes) (λ index. (index < length writes) × InvariantAt (λ write. write.0 ≡ address) writes index)
+    → MatchOption place (All (λ write. write.0 ≢ address) writes) (λ index. (index < length writes) × HoldsAt (λ write. write.0 ≡ address) writes index)
     → writes_to writes address ≡ is_some place
 written_by_place writes address None none = writes_to-lookup writes address ∙ ap is_some (lookup_none writes address none)
 written_by_place writes address (Some index) here = written_here writes index address here.0 here.1
@@ -73,7 +73,7 @@ here_step : (writes : List (ℕ × ℕ)) (index address : ℕ) (write : ℕ × �
 here_step writes index address write at key = rw (← key) at
 
 -- what stands where a search for a cell ended
-pub here_at : (writes seen : List (ℕ × ℕ)) (index address : ℕ) (write : ℕ × ℕ) → seen ≡ writes → (index < length seen) × InvariantAt (λ w. w.0 ≡ address) seen index
+pub here_at : (writes seen : List (ℕ × ℕ)) (index address : ℕ) (write : ℕ × ℕ) → seen ≡ writes → (index < length seen) × HoldsAt (λ w. w.0 ≡ address) seen index
     → write ≡ get_or writes index write → slice_get writes index ≡ Some (address, write.1)
 here_at writes seen index address write same found at =
     let within : index < length writes = rw same at found.0 in

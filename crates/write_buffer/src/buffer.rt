@@ -1,7 +1,7 @@
 //! A list of writes to distinct cells. It can go back to what it was at a mark, since each value that
 //! is replaced is kept.
 ghost use Rattle.std.specs.Prelude.{◌≡◌, ◌≢◌, ◌+◌, ◌<◌, ◌≤◌, ◌^◌, [], ◌∷◌, ◌++◌, length, nat_eq, slice_get, vec_capacity, Some, is_some, IsFalse, IsOk, IsTrue, MatchOption, OnErr, OnOk};
-ghost use Rattle.std.specs.List.{All, InvariantAt};
+ghost use Rattle.std.specs.List.{All, HoldsAt};
 ghost use Rattle.std.specs.Map.{lookup};
 ghost use Rattle.stm_model.specs.Heap.{put, writes_to};
 ghost use Rattle.stm_model.specs.declared.marks.WriteMark.{WriteMark};
@@ -159,7 +159,7 @@ impl WriteBuffer {
 fn index_of(writes: &[(u32, u64)], address: u32) -> Option<usize>
     ensures place { MatchOption result
         (All (λ write. write.0 ≢ address) writes.now)
-        (λ index. (index < length writes.now) × InvariantAt (λ write. write.0 ≡ address) writes.now index) }
+        (λ index. (index < length writes.now) × HoldsAt (λ write. write.0 ≡ address) writes.now index) }
     ensures written { writes_to writes.now address ≡ is_some result }
 {
     writes.iter().position(|write| write.0 == address)
