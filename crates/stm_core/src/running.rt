@@ -474,7 +474,7 @@ impl Running {
 // The next access of an operation that goes on; the exchange of the clock has a name of its own.
 fn made(access: Option<Access>) -> Next
     ensures access { IfSome access (λ a. result ≡ named a) }
-    ensures goes_on { (reply : ReplyOf) → result ≡ coming.Reply reply → reply ≡ reply.Ready }
+    ensures goes_on { (told : ReplyOf) → result ≡ coming.Reply told → told ≡ reply.Ready }
 {
     match access {
         Some(
