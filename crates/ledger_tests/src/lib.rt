@@ -1,10 +1,5 @@
-//! Tests that cross crates: the top call over memory (worked jobs, refusals, failing ends, the greatest
-//! texts), the operations of an attempt over its read set, and two transactions in every interleaving.
+//! Tests of the program over memory: worked jobs, refusals, failing ends, the greatest texts.
 #![tactic(auto)]
 
-#[cfg(test)]
-mod interleavings;
-#[cfg(test)]
-mod operations;
 #[cfg(test)]
 mod tests;

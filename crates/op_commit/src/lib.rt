@@ -13,6 +13,3 @@ pub use back::{BackEnd, BackOp, BackPlace};
 pub use commit::{CommitEnd, CommitOp, CommitPlace};
 pub use free::{FreeEnd, FreeOp, FreePlace};
 pub use register::{RegisterOp, RegisterPlace, WatchEnd};
-
-#[cfg(test)]
-mod tests;

@@ -6,6 +6,3 @@ mod read;
 
 pub use extend::{ExtendEnd, ExtendOp, ExtendPlace};
 pub use read::{ReadEnd, ReadOp, ReadPlace};
-
-#[cfg(test)]
-mod tests;

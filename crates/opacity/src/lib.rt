@@ -6,6 +6,3 @@ pub mod words;
 mod world;
 
 pub use world::{Committed, World};
-
-#[cfg(test)]
-mod tests;

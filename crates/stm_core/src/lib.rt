@@ -13,6 +13,3 @@ pub use attempt::Attempt;
 pub use footprint::{Footprint, Written};
 pub use next::{Next, Reply};
 pub use stm_model::{Ask, Ending};
-
-#[cfg(test)]
-mod tests;

@@ -8,6 +8,3 @@ mod run;
 
 pub use simulation::Simulation;
 pub use stm_core::{Next, Reply};
-
-#[cfg(test)]
-mod tests;

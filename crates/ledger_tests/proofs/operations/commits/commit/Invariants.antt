@@ -1,5 +1,0 @@
-use Rattle.op_commit.specs.Commit.{IsAlong}
-use Rattle.ledger_tests.proofs.operations.commits.commit.Given as goal
-
-abbrev pub invariant-loop-access : goal.invariant-loop-access
-invariant-loop-access g l = IsAlong l.op l.reads.notes

@@ -1,5 +1,0 @@
-use Rattle.op_read.specs.Extend.{IsAlong}
-use Rattle.ledger_tests.proofs.operations.reads.extend.Given as goal
-
-abbrev pub invariant-loop-access : goal.invariant-loop-access
-invariant-loop-access g l = IsAlong l.op l.reads.notes
