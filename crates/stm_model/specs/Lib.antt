@@ -22,4 +22,5 @@ pub mod World
 pub mod Rows
 pub mod Evidence
 pub mod FirstUse
+pub mod HandlerRuns
 pub mod Safe

@@ -1,5 +1,5 @@
 //! The laws of attempts. Each function does nothing: its clauses are theorems.
-ghost use Rattle.std.specs.Prelude.{◌≡◌, ◌<◌, ◌↔◌, ◌⊎◌, ◌++◌, ◌∷◌, [], ℕ, Bool, List, nat_eq, Ok, Option, Some, None, length, replicate, IsFalse, IsTrue};
+ghost use Rattle.std.specs.Prelude.{◌≡◌, ◌<◌, ◌↔◌, ◌⊎◌, ◌++◌, ◌∷◌, [], ℕ, Bool, false, ◌||◌, List, nat_eq, Ok, Option, Some, None, length, replicate, IsFalse, IsTrue};
 ghost use Rattle.stm_model.specs.declared.access.Ask.TheVariants.{Abandon, Enter, Finish, Get, Hook, Keep, Later, Set, Undo};
 ghost use Rattle.std.specs.Map.{lookup};
 ghost use Rattle.meta_word.specs.Meta.{still_has, same_meta};
@@ -11,12 +11,13 @@ ghost use Rattle.stm_model.specs.declared.cause.HookPhase.{HookPhase};
 ghost use Rattle.stm_model.specs.declared.access.Ask.{Ask};
 ghost use Rattle.stm_model.specs.Accesses.{Answer, addr_of, next};
 ghost use Rattle.stm_model.specs.After.{after, answer_with, release_level_on, validated, note_of, exchanged, ring_if, rolled, run_all};
-ghost use Rattle.stm_model.specs.Attempt.{Attempt, Ended, Ready, Stopped, cause_at, cells_of};
-ghost use Rattle.stm_model.specs.CellsState.{Book, empty_book, late_registered, entered, hooked, kept, undone, written};
+ghost use Rattle.stm_model.specs.Attempt.{Attempt, Ended, Ready, Stopped, cause_at, cells_of, has_prepared};
+ghost use Rattle.stm_model.specs.CellsState.{Book, CellsState, empty_book, late_registered, entered, hooked, kept, undone, written};
 ghost use Rattle.stm_model.specs.FirstUse.{ReadOn, Reads, WriteOn, Writes};
-ghost use Rattle.stm_model.specs.Handlers.{Handlers};
+ghost use Rattle.stm_model.specs.HandlerRuns.{Ends, Step, Undoes, ended_runs, led, prepares_by};
+ghost use Rattle.stm_model.specs.Handlers.{Handlers, failing};
 ghost use Rattle.stm_model.specs.Heap.{writes_to};
-ghost use Rattle.stm_model.specs.Moves.{AwaitsAskAt, Does, EndsLate, IsCall, Takes, moved, moved_on};
+ghost use Rattle.stm_model.specs.Moves.{AwaitsAsk, AwaitsAskAt, Does, EndsLate, IsCall, Takes, conclude, moved, moved_on};
 ghost use Rattle.stm_model.specs.Refusing.{RefusesRead, RefusesWrite, deepest};
 ghost use Rattle.stm_model.specs.Telling.{Refused};
 ghost use Rattle.stm_model.specs.Whole.{Whole};
@@ -107,6 +108,45 @@ pub fn a_level_given_back_is_undone()
         t.due ≡ ring_if pending cell → 0 < length t.saved → cause_at t.stage ≡ None →
         cells_of size (moved_on (release_level_on t kept []) (replicate (length (release_level_on t kept []).due) Does)) ≡
         undone (cells_of size t) }
+{}
+
+/// The handlers that run at the end of an attempt, in order: all of `completing` where it committed or
+/// only read, and all of `failing` where it was rolled back, after it had begun to prepare or before.
+/// `Ends` begins with the ask or the late body that ends the attempt, and each step keeps it. So it holds of
+/// whole runs, whatever the accesses find.
+pub fn handlers_run_in_order()
+    ensures concluded { (t : Attempt) → t.due ≡ [] → IsFalse (has_prepared t.phase) →
+        Ends t.now.runs t.now.hooks false (conclude t t.now.writes) }
+    ensures rolled_back { (t : Attempt) (cause : Cause) → t.due ≡ [] → IsFalse (has_prepared t.phase) →
+        Ends t.now.runs t.now.hooks false (rolled t cause) }
+    ensures access { (former hooks : Handlers) (prepared : Bool) (t : Attempt) (answer : Answer) → Ends former hooks prepared t →
+        t.due ≡ [] → Ends former hooks (prepared || has_prepared (after t answer).phase) (after t answer) }
+    ensures does { (former hooks : Handlers) (prepared : Bool) (t : Attempt) → Ends former hooks prepared t →
+        Ends former hooks prepared (moved t Does) }
+    ensures over { (former hooks : Handlers) (prepared : Bool) (t : Attempt) → Ends former hooks prepared t → t.stage ≡ Ended → t.due ≡ [] →
+        t.now.runs ≡ former ++ ended_runs prepared t.ending hooks }
+    ensures whole { (t : Attempt) (steps : List Step) → t.due ≡ [] → IsFalse (has_prepared t.phase) →
+        let ending : Attempt = conclude t t.now.writes in
+        let last : Attempt = led ending steps in
+        last.stage ≡ Ended → last.due ≡ [] →
+        last.now.runs ≡ t.now.runs ++ ended_runs (prepares_by ending steps) last.ending t.now.hooks }
+    ensures whole_rolled_back { (t : Attempt) (cause : Cause) (steps : List Step) → t.due ≡ [] → IsFalse (has_prepared t.phase) →
+        let last : Attempt = led (rolled t cause) steps in
+        last.stage ≡ Ended → last.due ≡ [] → last.now.runs ≡ t.now.runs ++ failing false t.now.hooks }
+{}
+
+/// An undo of a level, step by step: its cells are released, then its handlers run, and once nothing is due
+/// the level is undone.
+pub fn a_level_is_undone_in_order()
+    ensures begins { (size : ℕ) (t : Attempt) → AwaitsAsk t → cause_at t.stage ≡ None → 0 < length t.saved →
+        Undoes size (cells_of size t) (moved t (Takes Undo)) }
+    ensures access { (size : ℕ) (before : CellsState) (t : Attempt) (answer : Answer) → Undoes size before t →
+        Undoes size before (after t answer) }
+    ensures does { (size : ℕ) (before : CellsState) (t : Attempt) → Undoes size before t → Undoes size before (moved t Does) }
+    ensures over { (size : ℕ) (before : CellsState) (t : Attempt) → Undoes size before t → AwaitsAsk t →
+        cells_of size t ≡ undone before }
+    ensures whole { (size : ℕ) (t : Attempt) (steps : List Step) → AwaitsAsk t → cause_at t.stage ≡ None → 0 < length t.saved →
+        AwaitsAsk (led (moved t (Takes Undo)) steps) → cells_of size (led (moved t (Takes Undo)) steps) ≡ undone (cells_of size t) }
 {}
 
 /// Who was refused something is refused everything with that cause: nothing but the number of levels
