@@ -1,23 +1,22 @@
 -- Which handlers run at an attempt's end and at an undo, step by step.
-use Rattle.std.proofs.Common.{◌≡◌, ℕ, ◌<◌, arith, Bool, true, false, ◌||◌, not, ◌&&◌, nat_eq, nat_lt, cond, suc, List, [], ◌∷◌, ◌++◌, length, drop, Option, Some, None, refl, sym, ap, subst, ◌∙◌, append_assoc}
+use Rattle.std.proofs.Common.{◌≡◌, ℕ, ◌<◌, arith, Bool, true, false, ◌||◌, nat_eq, nat_lt, cond, suc, List, [], ◌∷◌, ◌++◌, length, drop, Option, Some, None, refl, sym, ap, subst, ◌∙◌, append_assoc}
 use Rattle.std.proofs.lemmas.List.{append-nil}
 use Rattle.meta_word.specs.Meta.{still_has}
 use Rattle.meta_word.specs.Status.{same_status}
 use Rattle.meta_word.specs.declared.meta.Meta.{Meta}
-use Rattle.meta_word.specs.declared.status.Phase.{Phase}
-use Rattle.meta_word.specs.declared.status.Phase.TheVariants.{Active, Idle, Preparing}
+use Rattle.meta_word.specs.declared.status.Phase.TheVariants.{Idle, Preparing}
 use Rattle.meta_word.specs.declared.status.TxnStatus.{TxnStatus}
 use Rattle.stm_model.specs.declared.access.Ask.TheVariants.{Undo}
 use Rattle.stm_model.specs.declared.cause.Cause.{Cause}
 use Rattle.stm_model.specs.declared.cause.Cause.TheVariants.{ClockEnd, ClockMoved, Doomed}
 use Rattle.stm_model.specs.declared.ending.Ending.{Ending}
-use Rattle.stm_model.specs.declared.ending.Ending.TheVariants.{Committed, Read, Rolled}
+use Rattle.stm_model.specs.declared.ending.Ending.TheVariants.{Committed, Rolled}
 use Rattle.stm_model.specs.declared.note.Note.{Note}
 use Rattle.stm_model.specs.Accesses.{Answer, Number, OfMeta, OfStatus, active}
-use Rattle.stm_model.specs.After.{after, after_at, at, decided, done, final_runs, mark_on, note_validated, prepared, release_level_on, release_on, ring_if, roll_on, rolled, run_all, stale, store_on, validate_on}
+use Rattle.stm_model.specs.After.{after, after_at, at, decided, final_runs, mark_on, note_validated, prepared, release_level_on, release_on, ring_if, roll_on, rolled, run_all, stale, store_on, validate_on}
 use Rattle.stm_model.specs.Attempt.{Attempt, Due, Run, Ring, Stage, Write, Ready, Late, Stopped, ReleaseLevel, Prepare, Mark, CommitClock, CommitNote, Decide, StoreValues, Release, RollBack, Close, Ended, cause_at, cells_of, has_prepared}
-use Rattle.stm_model.specs.CellsState.{Book, CellsState, level_runs, outer, restored, returned, undone}
-use Rattle.stm_model.specs.Handlers.{Handlers, after_commit, committing, completing, failing, preparing, undoing}
+use Rattle.stm_model.specs.CellsState.{Book, CellsState, level_runs, restored, returned, undone}
+use Rattle.stm_model.specs.Handlers.{Handlers, after_commit, committing, failing, preparing, undoing}
 use Rattle.stm_model.specs.HandlerRuns.{DoesDue, Ends, EndsAt, Finds, Step, Undoes, cells_then, due_runs, ended_runs, found_unless_due, is_rolled, led, open_runs, prepares_by, releases, runs_left, runs_at, stepped}
 use Rattle.stm_model.specs.Moves.{AwaitsAsk, AwaitsAskAt, Does, Takes, asked_at, asked_going, conclude, did_first, moved, undo_level}
 
