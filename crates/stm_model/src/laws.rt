@@ -7,6 +7,7 @@ ghost use Rattle.stm_model.specs.declared.note.Note.{Note};
 ghost use Rattle.stm_model.specs.Heap.{Agrees, AreWords, over, put, writes_to};
 ghost use Rattle.stm_model.specs.History.{Entry, IsCurrent, IsEntry, IsLegal, entry_after, last, state};
 ghost use Rattle.stm_model.specs.Owes.{Owes};
+ghost use Rattle.stm_model.specs.Sizes.{IsWithinLimits, cells_needed};
 ghost use Rattle.stm_model.specs.Telling.{Extends, Owing, Reading, StaysLawful, Stopping, Writing};
 
 use crate::{Cells, Free, Law};
@@ -124,4 +125,13 @@ pub fn what_is_owed_stays_owed<L: Law, C: Cells<L>>()
 pub fn free_allows_all_writes()
     ensures { (law : Free) (size : ℕ) (reads : List Note) (writes : List (ℕ × ℕ)) →
         Owes (⟦<Free as Law>⟧.lawful law) (⟦<Free as Law>⟧.may law) size reads writes }
+{}
+
+/// A layout by hand: two refs, one map, one snapshot slot and two stripes of three blocks each take
+/// 2 + 2 + 1 + 2 + 108 cells, in six blocks. With no stripe there is none, and it would have 5 cells.
+pub fn a_layout_of_two_stripes()
+    ensures within { IsWithinLimits 2 1 1 2 3 }
+    ensures cells { cells_needed 2 1 1 2 3 ≡ 115 }
+    ensures none { IsWithinLimits 2 1 1 0 3 → ⊥ }
+    ensures no_stripe { cells_needed 2 1 1 0 3 ≡ 5 }
 {}
