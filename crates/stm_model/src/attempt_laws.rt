@@ -98,9 +98,9 @@ pub fn a_first_write_is_done_or_refused()
         Refused (RefusesWrite (cells_of size t) address) cause (cells_of size t) (cells_of size (after t answer)) }
 {}
 
-/// Once the cells of a level are given back and its handlers have run, the level is undone. It may be
+/// Once the cells of a level are released and its handlers have run, the level is undone. It may be
 /// rung for the last one of these cells first.
-pub fn a_level_given_back_is_undone()
+pub fn a_released_level_is_undone()
     ensures runs { (size : ℕ) (t : Attempt) (hooks : Handlers) → t.due ≡ run_all hooks →
         cells_of size (moved_on t (replicate (length hooks) Does)) ≡
         record (cells_of size t) { now = record t.now { runs = t.now.runs ++ hooks } } }
@@ -112,7 +112,7 @@ pub fn a_level_given_back_is_undone()
 
 /// The handlers that run at the end of an attempt, in order: all of `completing` where it committed or
 /// only read, and all of `failing` where it was rolled back, after it had begun to prepare or before.
-/// `Ends` begins with the ask or the late body that ends the attempt, and each step keeps it. So it holds of
+/// `Ends` begins with the ask or the before-commit body that ends the attempt, and each step keeps it. So it holds of
 /// whole runs, whatever the accesses find.
 pub fn handlers_run_in_order()
     ensures concluded { (t : Attempt) → t.due ≡ [] → IsFalse (has_prepared t.phase) →
@@ -164,8 +164,8 @@ pub fn who_was_refused_stays_so()
     ensures late { (t : Attempt) (cause : Cause) → cause_at t.stage ≡ Some cause → moved t EndsLate ≡ rolled t cause }
 {}
 
-/// A body that puts nothing off is the whole transaction.
-pub fn a_body_that_puts_nothing_off_is_the_whole<L: Law, B: Body<L>>()
+/// A body that registers no before-commit body is the whole transaction.
+pub fn a_body_without_late_ones_is_the_whole<L: Law, B: Body<L>>()
     ensures { (body left : B) (heap : List ℕ) (out : B.Out) (after : Book) → after.laters ≡ [] →
         (Whole B.means B.late_means body heap out after left ↔ B.means body heap empty_book (Ok out) after left) }
 {}
