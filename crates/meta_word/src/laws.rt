@@ -46,7 +46,7 @@ pub fn a_set_bit_is_a_set_field()
 {}
 
 /// Clearing the owner's bits and the changing bit leaves nobody, who changes nothing, and all else.
-pub fn cleared_bits_give_back()
+pub fn cleared_bits_leave_nobody()
     ensures fields { (word : ℕ) → word < 2 ^ 64
         → meta_of (bit_and word (bit_not w64 OWNER_AND_CHANGING_BITS))
         ≡ record (meta_of word) { changing = false; owner = 0 } }

@@ -9,12 +9,12 @@
 //! | 0 to 50 | version | by the owner, to its stamp, once the cell's new value is stored | never |
 //!
 //! The word is changed by one access at a time:
-//! - to take the cell is to exchange the word that was loaded for the same with an owner;
+//! - to acquire the cell is to exchange the word that was loaded for the same with an owner;
 //! - to mark it is to set the changing bit, and to wait is to set the pending bit;
-//! - to give it back is to clear the owner's bits and the changing bit;
-//! - to release it is to swap in the new version, with every other bit 0.
+//! - to release it unwritten is to clear the owner's bits and the changing bit;
+//! - to release it written is to swap in the new version, with every other bit 0.
 //!
-//! Where the word that was given back or released was pending, that caller rings for those who wait.
+//! Where the word was pending when the cell was released, that caller rings for those who wait.
 
 ghost use Rattle.std.specs.Prelude.{◌≡◌};
 ghost use Rattle.meta_word.specs.Meta.{MetaFits, changing_by_another, meta_of, meta_word, owned_by_another, same_but_pending, still_has};
@@ -38,7 +38,7 @@ pub const PENDING_BIT: u64 = 1 << PENDING_AT;
 /// The changing bit, which is set to mark a cell.
 pub const CHANGING_BIT: u64 = 1 << CHANGING_AT;
 
-/// The owner's bits and the changing bit, which are cleared to give a cell back.
+/// The owner's bits and the changing bit, which are cleared to release a cell unwritten.
 pub const OWNER_AND_CHANGING_BITS: u64 = CHANGING_BIT | ((MAX_OWNER as u64) << OWNER_AT);
 
 /// A cell's metadata word, unpacked.
@@ -48,7 +48,7 @@ pub struct Meta {
     /// cell. Set only with an owner, and only once its attempt can't be doomed any more.
     pub changing: bool,
     /// Somebody waits for the cell to change or to be released. It says nothing of the cell itself,
-    /// and stays where the cell is taken, marked or given back.
+    /// and stays where the cell is acquired, marked or released unwritten.
     pub pending: bool,
     /// The caller that may write the cell, or 0 for nobody. While the cell is owned, all but the
     /// pending bit is the owner's alone to change. Others may read the cell until it is changing.

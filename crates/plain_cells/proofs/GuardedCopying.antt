@@ -8,7 +8,7 @@ use Rattle.stm_model.specs.Heap.{over}
 use Rattle.stm_model.specs.CellsState.{Book, CellsState, hooked, kept, restored, undone, written}
 use Rattle.stm_model.specs.Telling.{Does, Enters, Leads, Owing, Writing}
 use Rattle.stm_model.specs.Ran.{Running}
-use Rattle.stm_model.proofs.TellingLemmas.{wrote_set}
+use Rattle.stm_model.proofs.TellingLemmas.{changed_written}
 use Rattle.stm_model.proofs.RanLemmas.{Owes-free, run_kept, run_then, run_undone, run_wrote}
 use Rattle.plain_cells.proofs.Counting.{Ran-hooked}
 
@@ -72,7 +72,7 @@ module _ {S L : Type 0} (lawful : L → List ℕ → Type 0) (may : L → List �
   seen_ran : (seen value : ℕ) (g h : S) → Leads law follows state g h (Does (written seen value)) → Running lawful may law follows state g h (Seen seen value) Whatever (Ok value)
   seen_ran seen value g h wrote =
       run_wrote lawful may law follows state (Seen seen value) Whatever _ value g h (λ heap writes is. (refl, is, refl)) (λ heap. tt) (free g h)
-      (wrote_set lawful law follows state g h seen value wrote)
+      (record { same_law = wrote.same_law; goes = wrote.goes; states = changed_written (lawful (law g)) seen value (state g) (state h) wrote.states })
 
   -- the level was kept
   pub copied_kept : (means : List ℕ → Book → Result ℕ Cause → Book → Type 0) (leaves : List ℕ → Book → Type 0) (from into seen value token : ℕ) (c d e f g h : S)

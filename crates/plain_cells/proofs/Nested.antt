@@ -1,8 +1,14 @@
--- Levels that nest still do where one is left, and where handlers are registered.
-use Rattle.std.proofs.Common.{◌≡◌, ℕ, ◌<◌, ◌≤◌, List, [], ◌∷◌, length, arith}
-use Rattle.std.specs.Prelude.{remove, slice_index_or}
+-- Levels that nest still do where one is left, and where handlers are registered. What was written stays words.
+use Rattle.std.proofs.Common.{◌≡◌, ℕ, ◌<◌, ◌≤◌, List, [], ◌∷◌, length, ap, arith}
+use Rattle.std.specs.Map.{values_of}
+use Rattle.std.specs.Prelude.{◌^◌, remove, slice_index_or}
+use Rattle.std.proofs.lemmas.List.Elements.{All-nil}
+use Rattle.stm_model.specs.CellsState.{Book, empty_book}
+use Rattle.stm_model.specs.Heap.{AreWords, put}
+use Rattle.stm_model.proofs.HeapLemmas.{AreWords-put}
+use Rattle.plain_cells.specs.Book.{book_of}
 use Rattle.plain_cells.specs.declared.book.PlainBook.{PlainBook}
-use Rattle.plain_cells.specs.Levels.{Nest}
+use Rattle.plain_cells.specs.Levels.{Nest, WriteWords}
 
 pub Nest-more : (most more : ℕ) (books : List PlainBook) → most ≤ more → Nest most books → Nest more books
 Nest-more most more [] le nest = tt
@@ -21,3 +27,26 @@ Nest-left most books rest book some is left nest =
 
 pub Nest-empty : (most : ℕ) (books : List PlainBook) → books ≡ [] → Nest most books
 Nest-empty most books none = rw none tt
+
+-- ---- values that are words
+
+pub WriteWords-empty : (book : PlainBook) (books : List PlainBook) → book_of book ≡ empty_book → books ≡ [] → WriteWords (book ∷ books)
+WriteWords-empty book books none nothing =
+    let unwritten : book.writes.items ≡ [] = ap (λ (b : Book). b.writes) none in
+    (rw unwritten (All-nil (λ number. number < 2 ^ 64)), rw nothing tt)
+
+pub WriteWords-same : (book new : PlainBook) (books : List PlainBook) → new.writes.items ≡ book.writes.items → WriteWords (book ∷ books) → WriteWords (new ∷ books)
+WriteWords-same book new books same words = (rw same words.0, words.1)
+
+pub WriteWords-left : (books rest : List PlainBook) → rest ≡ remove books 0 → WriteWords books → WriteWords rest
+WriteWords-left [] rest left words = rw left tt
+WriteWords-left (book ∷ books) rest left words = rw left words.1
+
+pub WriteWords-first : (books : List PlainBook) (book : PlainBook) → 0 < length books → book ≡ slice_index_or books 0 book → WriteWords books
+    → AreWords (values_of book.writes.items)
+WriteWords-first [] book some is words = absurd (omega arith)
+WriteWords-first (first ∷ books) book some is words = rw is words.0
+
+pub WriteWords-put : (book new : PlainBook) (books : List PlainBook) (address value : ℕ) → new.writes.items ≡ put book.writes.items address value → value < 2 ^ 64
+    → WriteWords (book ∷ books) → WriteWords (new ∷ books)
+WriteWords-put book new books address value is fits words = (rw is (AreWords-put book.writes.items address value words.0 fits), words.1)

@@ -10,7 +10,7 @@ ghost use Rattle.plain_cells.specs.Book.{HasRoom, book_of};
 use std::alloc::Global;
 use stm_model::{HookPhase, Memory, Note};
 
-/// A book: the writes, at most one of each cell, the handlers and the late bodies by their tokens,
+/// A book: the writes, at most one of each cell, the handlers and the before-commit bodies by their tokens,
 /// and the handlers that have run where something was undone.
 #[derive(Debug, Drop)]
 pub struct PlainBook {

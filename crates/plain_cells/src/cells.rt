@@ -1,5 +1,5 @@
 //! Cells over a plain heap.
-ghost use Rattle.std.specs.Prelude.{◌≡◌, ◌+◌, ◌<◌, ◌≤◌, ◌^◌, None, Option, Some, [], length, map, slice_index, vec_capacity, refl, IfOk, IfSome};
+ghost use Rattle.std.specs.Prelude.{◌≡◌, ◌+◌, ◌<◌, ◌≤◌, ◌^◌, None, Option, Some, [], ◌∷◌, length, map, slice_index, vec_capacity, refl, IfOk, IfSome};
 ghost use Rattle.std.proofs.Common.{◌∙◌, subst, sym};
 ghost use Rattle.std.proofs.Math.Logic.{∥∥₁_map};
 ghost use Rattle.std.proofs.lemmas.List.{length-map};
@@ -7,7 +7,7 @@ ghost use Rattle.stm_model.specs.CellsState.{CellsState, empty_book};
 ghost use Rattle.stm_model.specs.Heap.{Agrees, AreWords, over};
 ghost use Rattle.stm_model.specs.Refusing.{IsOfCells, deepest};
 ghost use Rattle.plain_cells.specs.Book.{HasRoom, book_of};
-ghost use Rattle.plain_cells.specs.Levels.{Nest, Nest-prop};
+ghost use Rattle.plain_cells.specs.Levels.{Nest, Nest-prop, WriteWords, WriteWords-prop};
 ghost use Rattle.plain_cells.specs.Facts.{Agrees-prop, AreWords-prop, IsAnswer-prop, witness_of};
 
 use crate::PlainBook;
@@ -36,6 +36,7 @@ pub struct PlainCells<L: Law + Drop> {
     ghost room: { HasRoom book },
     ghost depth: { length saved.items ≤ deepest },
     ghost nested: { Nest (length book.hooks.items) saved.items } by { Nest-prop (length book.hooks.items) saved.items },
+    ghost written: { WriteWords (book ∷ saved.items) } by { WriteWords-prop (book ∷ saved.items) },
     ghost answer: { IfSome cause IsOfCells } by { IsAnswer-prop cause },
 }
 
@@ -112,6 +113,8 @@ impl<L: Law + Drop> Cells<L> for PlainCells<L> {
     ghost follows_trans = { λ first second third one two. (two.0 ∙ one.0, two.1 ∙ one.1) };
 
     ghost witness = { λ cells. ∥∥₁_map cells.keeps_law (witness_of _ cells.heap.items cells.notes.items cells.words cells.agrees) };
+
+    ghost words = { λ cells. cells.written.0 };
 
     ghost answered = { λ cells. cells.answer };
 

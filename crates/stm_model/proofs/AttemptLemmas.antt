@@ -187,13 +187,13 @@ runs-due size t (hook ∷ hooks) due =
     let next : Attempt = record t { now = record t.now { runs = t.now.runs ++ (hook.0, hook.1) ∷ [] }; due = run_all hooks } in
     rw due (runs-due size next hooks refl ∙ rw (append_assoc t.now.runs (hook ∷ []) hooks) refl)
 
--- once the cells of a level are given back and its handlers have run
-abbrev given_back : ℕ → List (ℕ × ℕ) → Attempt → CellsState
-given_back size keep t =
+-- once the cells of a level are released and its handlers have run
+abbrev released_level : ℕ → List (ℕ × ℕ) → Attempt → CellsState
+released_level size keep t =
     cells_of size (moved_on (release_level_on t keep []) (replicate (length (release_level_on t keep []).due) Does))
 
 undone-here : (size : ℕ) (keep : List (ℕ × ℕ)) (t : Attempt) (former : Book) (books : List Book) (pending : Bool) (cell : ℕ) → cause_at t.stage ≡ None →
-    (let level : Attempt = record t { saved = former ∷ books; due = ring_if pending cell } in given_back size keep level ≡ undone (cells_of size level))
+    (let level : Attempt = record t { saved = former ∷ books; due = ring_if pending cell } in released_level size keep level ≡ undone (cells_of size level))
 unfolding cause_at moved
 undone-here size keep t former books false cell going =
     let hooks : Handlers = level_runs (former ∷ books) t.now in
@@ -206,14 +206,14 @@ undone-here size keep t former books true cell going =
     rw (length-map hooks (λ hook. Run hook.0 hook.1)) (rw going (runs-due size after hooks refl))
 
 undone-level : (size : ℕ) (keep : List (ℕ × ℕ)) (t : Attempt) (saved : List Book) (pending : Bool) (cell : ℕ) → 0 < length saved → cause_at t.stage ≡ None →
-    (let level : Attempt = record t { saved = saved; due = ring_if pending cell } in given_back size keep level ≡ undone (cells_of size level))
+    (let level : Attempt = record t { saved = saved; due = ring_if pending cell } in released_level size keep level ≡ undone (cells_of size level))
 undone-level size keep t [] pending cell some going = absurd (omega arith)
 undone-level size keep t (former ∷ books) pending cell some going = undone-here size keep t former books pending cell going
 
-pub given-back-is-undone : (size : ℕ) (t : Attempt) (keep : List (ℕ × ℕ)) (pending : Bool) (cell : ℕ) → t.due ≡ ring_if pending cell → 0 < length t.saved →
-    cause_at t.stage ≡ None → given_back size keep t ≡ undone (cells_of size t)
-given-back-is-undone size t keep pending cell rings some going =
-    subst (λ (due : List Due). given_back size keep (record t { due = due }) ≡ undone (cells_of size (record t { due = due })))
+pub released-is-undone : (size : ℕ) (t : Attempt) (keep : List (ℕ × ℕ)) (pending : Bool) (cell : ℕ) → t.due ≡ ring_if pending cell → 0 < length t.saved →
+    cause_at t.stage ≡ None → released_level size keep t ≡ undone (cells_of size t)
+released-is-undone size t keep pending cell rings some going =
+    subst (λ (due : List Due). released_level size keep (record t { due = due }) ≡ undone (cells_of size (record t { due = due })))
     (sym rings) (undone-level size keep t t.saved pending cell some going)
 
 -- ---- who was refused something

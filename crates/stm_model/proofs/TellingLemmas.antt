@@ -1,5 +1,5 @@
 -- What calls tell, one after another.
-use Rattle.std.proofs.Common.{◌≡◌, ℕ, ◌+◌, ◌≤◌, List, [], ◌∷◌, ◌++◌, length, get_or, set, None, refl, sym, ap, subst, ◌∙◌, inl, inr, arith, length-append}
+use Rattle.std.proofs.Common.{◌≡◌, ℕ, ◌+◌, ◌≤◌, List, [], ◌∷◌, ◌++◌, length, get_or, set, None, Some, refl, sym, ap, subst, ◌∙◌, inl, inr, arith, length-append}
 use Rattle.std.specs.Prelude.{Result, Ok, Err, MatchResult, ◌⊎◌}
 use Rattle.std.proofs.Math.Logic.{∥∥₁_elim}
 use denote.Struct.Props.{props}
@@ -8,9 +8,9 @@ use Rattle.stm_model.specs.declared.note.Note.{Note}
 use Rattle.stm_model.specs.Heap.{over, put}
 use Rattle.stm_model.specs.Owes.{IsPossible}
 use Rattle.stm_model.specs.CellsState.{CellsState, written}
-use Rattle.stm_model.specs.Telling.{Extends, Witness, Got, IsAtHand, IsNewNote, Does, Refused, Leads, Learned, Changed, Cut, AddsAtMost, Reading, Writing, Stopping, Knows, StaysLawful}
+use Rattle.stm_model.specs.Telling.{Extends, Witness, Got, IsAtHand, IsNewNote, Does, Refused, Leads, Learned, Changed, Cut, AddsAtMost, Reading, Writing, Stopping, Failing, Knows, Owing, StaysLawful}
 use Rattle.stm_model.proofs.HeapLemmas.{over-put}
-use Rattle.stm_model.proofs.CellsLemmas.{Extends-refl, Extends-same, Extends-trans, IsPossible-before, length-put}
+use Rattle.stm_model.proofs.CellsLemmas.{Extends-refl, Extends-same, Extends-trans, IsPossible-before, Owes-later, length-put}
 
 -- ---- between states
 
@@ -115,99 +115,199 @@ adds_written address value s t does =
     let reads : length t.reads ≡ length s.reads = ap (λ (x : CellsState). length x.reads) does.is in
     let most = length-put s.now.writes address value in omega arith
 
--- ---- between cells
+pub adds_then : (m n : ℕ) (s t u : CellsState) → AddsAtMost m s t → AddsAtMost n t u → AddsAtMost (m + n) s u
+adds_then m n s t u one two = omega arith
 
-pub leads_then : {S L : Type 0} (law : S → L) (follows : S → S → Type 0) (state : S → CellsState)
-    → ((c d e : S) → follows c d → follows d e → follows c e)
-    → (c d e : S) (P Q R : CellsState → CellsState → Type 0)
-    → ((s t u : CellsState) → P s t → Q t u → R s u)
-    → Leads law follows state c d P → Leads law follows state d e Q → Leads law follows state c e R
-leads_then law follows state trans c d e P Q R both p q = record {
-  same_law = q.same_law ∙ p.same_law;
-  goes = trans c d e p.goes q.goes;
-  states = both (state c) (state d) (state e) p.states q.states;
-}
+-- ---- between moments of cells
 
-pub leads_map : {S L : Type 0} (law : S → L) (follows : S → S → Type 0) (state : S → CellsState) (c d : S) (P Q : CellsState → CellsState → Type 0)
-    → ((s t : CellsState) → P s t → Q s t) → Leads law follows state c d P → Leads law follows state c d Q
-leads_map law follows state c d P Q so p = record { same_law = p.same_law; goes = p.goes; states = so (state c) (state d) p.states }
+-- What the lemmas below have to know of cells: the law that each moment keeps, what may follow on what, and what is told.
+pub record Moments (S L : Type 0) : Type 1 where
+  pub lawful : L → List ℕ → Type 0
+  pub law : S → L
+  pub follows : S → S → Type 0
+  pub state : S → CellsState
+  pub same : (c : S) → follows c c
+  pub trans : (c d e : S) → follows c d → follows d e → follows c e
 
-pub read_nothing : {S L : Type 0} (lawful : L → List ℕ → Type 0) (law : S → L) (follows : S → S → Type 0) (state : S → CellsState) (c : S) (fact : List ℕ → Type 0)
-    → follows c c → ((heap : List ℕ) → fact heap) → Reading lawful law follows state c c fact
-read_nothing lawful law follows state c fact same always = record { same_law = refl; goes = same; states = learned_nothing (lawful (law c)) fact (state c) always }
+abbrev pub moments : {S L : Type 0} (lawful : L → List ℕ → Type 0) (law : S → L) (follows : S → S → Type 0) (state : S → CellsState)
+    → ((c : S) → follows c c) → ((c d e : S) → follows c d → follows d e → follows c e) → Moments S L
+moments lawful law follows state same trans =
+    record { lawful = lawful; law = law; follows = follows; state = state; same = same; trans = trans }
 
-pub read_got : {S L : Type 0} (lawful : L → List ℕ → Type 0) (law : S → L) (follows : S → S → Type 0) (state : S → CellsState) (c d : S) (address value : ℕ)
-    → Leads law follows state c d (Got (lawful (law c)) address value) → Reading lawful law follows state c d (λ heap. get_or heap address 0 ≡ value)
-read_got lawful law follows state c d address value p =
-    leads_map law follows state c d _ _ (λ s t. learned_got (lawful (law c)) address value s t) p
+-- from one moment to another, as they are told
+abbrev pub Led : {S L : Type 0} → Moments S L → S → S → (CellsState → CellsState → Type 0) → Type 0
+Led m c d relation = Leads m.law m.follows m.state c d relation
 
-pub read_map : {S L : Type 0} (lawful : L → List ℕ → Type 0) (law : S → L) (follows : S → S → Type 0) (state : S → CellsState) (c d : S) (A B : List ℕ → Type 0)
-    → ((heap : List ℕ) → A heap → B heap) → Reading lawful law follows state c d A → Reading lawful law follows state c d B
-read_map lawful law follows state c d A B so p = leads_map law follows state c d _ _ (λ s t. learned_map (lawful (law c)) A B s t so) p
+abbrev pub Read : {S L : Type 0} → Moments S L → S → S → (List ℕ → Type 0) → Type 0
+Read m c d fact = Reading m.lawful m.law m.follows m.state c d fact
 
-pub read_then : {S L : Type 0} (lawful : L → List ℕ → Type 0) (law : S → L) (follows : S → S → Type 0) (state : S → CellsState)
-    → ((c d e : S) → follows c d → follows d e → follows c e)
-    → (c d e : S) (A B D : List ℕ → Type 0) → ((heap : List ℕ) → A heap → B heap → D heap)
-    → Reading lawful law follows state c d A → Reading lawful law follows state d e B → Reading lawful law follows state c e D
-read_then lawful law follows state trans c d e A B D both p q = record {
-  same_law = q.same_law ∙ p.same_law;
-  goes = trans c d e p.goes q.goes;
-  states = learned_then (lawful (law c)) A B D (state c) (state d) (state e) both p.states
-      (subst (λ l. Learned (lawful l) B (state d) (state e)) p.same_law q.states);
-}
+abbrev pub Wrote : {S L : Type 0} → Moments S L → S → S → (List ℕ → List ℕ → Type 0) → Type 0
+Wrote m c d step = Writing m.lawful m.law m.follows m.state c d step
 
-pub wrote_set : {S L : Type 0} (lawful : L → List ℕ → Type 0) (law : S → L) (follows : S → S → Type 0) (state : S → CellsState) (c d : S) (address value : ℕ)
-    → Leads law follows state c d (Does (written address value)) → Writing lawful law follows state c d (λ before after. after ≡ set before address value)
-wrote_set lawful law follows state c d address value p =
-    leads_map law follows state c d _ _ (λ s t. changed_written (lawful (law c)) address value s t) p
+abbrev pub Stopped : {S L : Type 0} → Moments S L → S → S → Cause → Type 0
+Stopped m c d cause = Stopping m.law m.follows m.state c d cause
 
-pub wrote_nothing : {S L : Type 0} (lawful : L → List ℕ → Type 0) (law : S → L) (follows : S → S → Type 0) (state : S → CellsState) (c d : S) (fact : List ℕ → Type 0)
-    → Reading lawful law follows state c d fact → Writing lawful law follows state c d (λ before after. (after ≡ before) × fact before)
-wrote_nothing lawful law follows state c d fact p =
-    leads_map law follows state c d _ _ (λ s t. changed_learned (lawful (law c)) fact s t) p
+abbrev pub Failed : {S L : Type 0} → Moments S L → S → S → (Cause → Type 0) → (List ℕ → List ℕ → Type 0) → Cause → Type 0
+Failed m c d own step cause = Failing m.lawful m.law m.follows m.state c d own step cause
 
-pub wrote_map : {S L : Type 0} (lawful : L → List ℕ → Type 0) (law : S → L) (follows : S → S → Type 0) (state : S → CellsState) (c d : S) (A B : List ℕ → List ℕ → Type 0)
-    → ((before after : List ℕ) → A before after → B before after) → Writing lawful law follows state c d A → Writing lawful law follows state c d B
-wrote_map lawful law follows state c d A B so p = leads_map law follows state c d _ _ (λ s t. changed_map (lawful (law c)) A B s t so) p
+module _ {S L : Type 0} (m : Moments S L) where
+  pub leads_then : (c d e : S) (P Q R : CellsState → CellsState → Type 0) → ((s t u : CellsState) → P s t → Q t u → R s u)
+      → Led m c d P → Led m d e Q → Led m c e R
+  leads_then c d e P Q R both p q = record {
+    same_law = q.same_law ∙ p.same_law;
+    goes = m.trans c d e p.goes q.goes;
+    states = both (m.state c) (m.state d) (m.state e) p.states q.states;
+  }
 
-pub wrote_then : {S L : Type 0} (lawful : L → List ℕ → Type 0) (law : S → L) (follows : S → S → Type 0) (state : S → CellsState)
-    → ((c d e : S) → follows c d → follows d e → follows c e)
-    → (c d e : S) (A B D : List ℕ → List ℕ → Type 0) → ((first second third : List ℕ) → A first second → B second third → D first third)
-    → Writing lawful law follows state c d A → Writing lawful law follows state d e B → Writing lawful law follows state c e D
-wrote_then lawful law follows state trans c d e A B D both p q = record {
-  same_law = q.same_law ∙ p.same_law;
-  goes = trans c d e p.goes q.goes;
-  states = changed_then (lawful (law c)) A B D (state c) (state d) (state e) both p.states
-      (subst (λ l. Changed (lawful l) B (state d) (state e)) p.same_law q.states);
-}
+  pub leads_map : (c d : S) (P Q : CellsState → CellsState → Type 0) → ((s t : CellsState) → P s t → Q s t) → Led m c d P → Led m c d Q
+  leads_map c d P Q so p = record { same_law = p.same_law; goes = p.goes; states = so (m.state c) (m.state d) p.states }
 
-pub stop_refused : {S L : Type 0} (law : S → L) (follows : S → S → Type 0) (state : S → CellsState) (c d : S) (fresh : Cause → Type 0) (cause : Cause)
-    → Leads law follows state c d (Refused fresh cause) → Stopping law follows state c d cause
-stop_refused law follows state c d fresh cause p = leads_map law follows state c d _ _ (cut_refused fresh cause) p
+  -- ---- reads
 
-pub stop_wrote : {S L : Type 0} (lawful : L → List ℕ → Type 0) (law : S → L) (follows : S → S → Type 0) (state : S → CellsState)
-    → ((c d e : S) → follows c d → follows d e → follows c e)
-    → (c d e : S) (A : List ℕ → List ℕ → Type 0) (cause : Cause)
-    → Writing lawful law follows state c d A → Stopping law follows state d e cause → Stopping law follows state c e cause
-stop_wrote lawful law follows state trans c d e A cause p q =
-    leads_then law follows state trans c d e _ _ _ (cut_later (lawful (law c)) A cause) p q
+  pub read_nothing : (c : S) (fact : List ℕ → Type 0) → ((heap : List ℕ) → fact heap) → Read m c c fact
+  read_nothing c fact always = record { same_law = refl; goes = m.same c; states = learned_nothing (m.lawful (m.law c)) fact (m.state c) always }
 
-pub stop_then : {S L : Type 0} (lawful : L → List ℕ → Type 0) (law : S → L) (follows : S → S → Type 0) (state : S → CellsState)
-    → ((c d e : S) → follows c d → follows d e → follows c e)
-    → (c d e : S) (A : List ℕ → Type 0) (cause : Cause)
-    → Reading lawful law follows state c d A → Stopping law follows state d e cause → Stopping law follows state c e cause
-stop_then lawful law follows state trans c d e A cause p q =
-    stop_wrote lawful law follows state trans c d e _ cause (wrote_nothing lawful law follows state c d A p) q
+  pub read_got : (c d : S) (address value : ℕ) → Led m c d (Got (m.lawful (m.law c)) address value) → Read m c d (λ heap. get_or heap address 0 ≡ value)
+  read_got c d address value p = leads_map c d _ _ (λ s t. learned_got (m.lawful (m.law c)) address value s t) p
 
--- what the last of several calls told is told from their begin on
-pub told_later : {T S L : Type 0} (lawful : L → List ℕ → Type 0) (law : S → L) (follows : S → S → Type 0) (state : S → CellsState)
-    → ((c d e : S) → follows c d → follows d e → follows c e)
-    → (c d e : S) (A : List ℕ → Type 0) (B : T → List ℕ → Type 0) (answer : Result T Cause)
-    → Reading lawful law follows state c d A
-    → MatchResult answer (λ out. Reading lawful law follows state d e (B out)) (λ cause. Stopping law follows state d e cause)
-    → MatchResult answer (λ out. Reading lawful law follows state c e (B out)) (λ cause. Stopping law follows state c e cause)
-told_later lawful law follows state trans c d e A B (Ok out) p q = read_then lawful law follows state trans c d e A (B out) (B out) (λ heap a b. b) p q
-told_later lawful law follows state trans c d e A B (Err cause) p q = stop_then lawful law follows state trans c d e A cause p q
+  -- an address by its equation
+  pub read_at : (c d : S) (address place value : ℕ) → address ≡ place → Led m c d (Got (m.lawful (m.law c)) address value)
+      → Read m c d (λ heap. get_or heap place 0 ≡ value)
+  read_at c d address place value is p = subst (λ cell. Read m c d (λ heap. get_or heap cell 0 ≡ value)) is (read_got c d address value p)
+
+  pub read_map : (c d : S) (A B : List ℕ → Type 0) → ((heap : List ℕ) → A heap → B heap) → Read m c d A → Read m c d B
+  read_map c d A B so p = leads_map c d _ _ (λ s t. learned_map (m.lawful (m.law c)) A B s t so) p
+
+  pub read_then : (c d e : S) (A B D : List ℕ → Type 0) → ((heap : List ℕ) → A heap → B heap → D heap) → Read m c d A → Read m d e B → Read m c e D
+  read_then c d e A B D both p q = record {
+    same_law = q.same_law ∙ p.same_law;
+    goes = m.trans c d e p.goes q.goes;
+    states = learned_then (m.lawful (m.law c)) A B D (m.state c) (m.state d) (m.state e) both p.states
+        (subst (λ l. Learned (m.lawful l) B (m.state d) (m.state e)) p.same_law q.states);
+  }
+
+  pub read_size : (c d : S) (A : List ℕ → Type 0) → Read m c d A → (m.state d).size ≡ (m.state c).size
+  read_size c d A p = ap (λ (x : CellsState). x.size) p.states.only_reads
+
+  -- ---- writes
+
+  pub wrote_set : (c d : S) (address value : ℕ) → Led m c d (Does (written address value)) → Wrote m c d (λ before after. after ≡ set before address value)
+  wrote_set c d address value p = leads_map c d _ _ (λ s t. changed_written (m.lawful (m.law c)) address value s t) p
+
+  -- an address by its equation
+  pub wrote_at : (c d : S) (address place value : ℕ) → address ≡ place → Led m c d (Does (written address value))
+      → Wrote m c d (λ before after. after ≡ set before place value)
+  wrote_at c d address place value is p = subst (λ cell. Wrote m c d (λ before after. after ≡ set before cell value)) is (wrote_set c d address value p)
+
+  pub wrote_nothing : (c d : S) (fact : List ℕ → Type 0) → Read m c d fact → Wrote m c d (λ before after. (after ≡ before) × fact before)
+  wrote_nothing c d fact p = leads_map c d _ _ (λ s t. changed_learned (m.lawful (m.law c)) fact s t) p
+
+  pub wrote_map : (c d : S) (A B : List ℕ → List ℕ → Type 0) → ((before after : List ℕ) → A before after → B before after) → Wrote m c d A → Wrote m c d B
+  wrote_map c d A B so p = leads_map c d _ _ (λ s t. changed_map (m.lawful (m.law c)) A B s t so) p
+
+  pub wrote_then : (c d e : S) (A B D : List ℕ → List ℕ → Type 0) → ((first second third : List ℕ) → A first second → B second third → D first third)
+      → Wrote m c d A → Wrote m d e B → Wrote m c e D
+  wrote_then c d e A B D both p q = record {
+    same_law = q.same_law ∙ p.same_law;
+    goes = m.trans c d e p.goes q.goes;
+    states = changed_then (m.lawful (m.law c)) A B D (m.state c) (m.state d) (m.state e) both p.states
+        (subst (λ l. Changed (m.lawful l) B (m.state d) (m.state e)) p.same_law q.states);
+  }
+
+  -- no call at all
+  pub wrote_none : (c : S) (step : List ℕ → List ℕ → Type 0) → ((heap : List ℕ) → step heap heap) → Wrote m c c step
+  wrote_none c step stays = wrote_map c c (λ before after. (after ≡ before) × Unit {0}) step (λ before after p. rw p.0 (stays before))
+      (wrote_nothing c c (λ heap. Unit {0}) (read_nothing c (λ heap. Unit {0}) (λ heap. tt)))
+
+  pub wrote_size : (c d : S) (step : List ℕ → List ℕ → Type 0) → Wrote m c d step → (m.state d).size ≡ (m.state c).size
+  wrote_size c d step p = ap (λ (x : CellsState). x.size) p.states.only_writes
+
+  -- ---- causes
+
+  pub stop_refused : (c d : S) (fresh : Cause → Type 0) (cause : Cause) → Led m c d (Refused fresh cause) → Stopped m c d cause
+  stop_refused c d fresh cause p = leads_map c d _ _ (cut_refused fresh cause) p
+
+  pub stop_wrote : (c d e : S) (A : List ℕ → List ℕ → Type 0) (cause : Cause) → Wrote m c d A → Stopped m d e cause → Stopped m c e cause
+  stop_wrote c d e A cause p q = leads_then c d e _ _ _ (cut_later (m.lawful (m.law c)) A cause) p q
+
+  pub stop_then : (c d e : S) (A : List ℕ → Type 0) (cause : Cause) → Read m c d A → Stopped m d e cause → Stopped m c e cause
+  stop_then c d e A cause p q = stop_wrote c d e _ cause (wrote_nothing c d A p) q
+
+  -- what failed after what was written
+  pub fail_wrote : (c d e : S) (own : Cause → Type 0) (A B D : List ℕ → List ℕ → Type 0) (cause : Cause)
+      → ((first second third : List ℕ) → A first second → B second third → D first third)
+      → Wrote m c d A → Failed m d e own B cause → Failed m c e own D cause
+  fail_wrote c d e own A B D cause both p (inl stop) = inl (stop_wrote c d e A cause p stop)
+  fail_wrote c d e own A B D cause both p (inr failed) = inr (failed.0, wrote_then c d e A B D both p failed.1)
+
+  -- ---- answers
+
+  -- what the last of several calls told is told from their begin on
+  pub told_later : {T : Type 0} (c d e : S) (A : List ℕ → Type 0) (B : T → List ℕ → Type 0) (answer : Result T Cause) → Read m c d A
+      → MatchResult answer (λ out. Read m d e (B out)) (λ cause. Stopped m d e cause)
+      → MatchResult answer (λ out. Read m c e (B out)) (λ cause. Stopped m c e cause)
+  told_later c d e A B (Ok out) p q = read_then c d e A (B out) (B out) (λ heap a b. b) p q
+  told_later c d e A B (Err cause) p q = stop_then c d e A cause p q
+
+  -- the same after writes
+  pub told_wrote : {T : Type 0} (c d e : S) (A : List ℕ → List ℕ → Type 0) (B D : T → List ℕ → List ℕ → Type 0) (answer : Result T Cause)
+      → ((out : T) (first second third : List ℕ) → A first second → B out second third → D out first third) → Wrote m c d A
+      → MatchResult answer (λ out. Wrote m d e (B out)) (λ cause. Stopped m d e cause)
+      → MatchResult answer (λ out. Wrote m c e (D out)) (λ cause. Stopped m c e cause)
+  told_wrote c d e A B D (Ok out) both p q = wrote_then c d e A (B out) (D out) (both out) p q
+  told_wrote c d e A B D (Err cause) both p q = stop_wrote c d e A cause p q
+
+  -- the same where the last call may fail with a cause of its own
+  pub told_failing : {T : Type 0} (c d e : S) (own : Cause → Type 0) (A : List ℕ → List ℕ → Type 0) (B D : T → List ℕ → List ℕ → Type 0)
+      (F G : List ℕ → List ℕ → Type 0) (answer : Result T Cause)
+      → ((out : T) (first second third : List ℕ) → A first second → B out second third → D out first third)
+      → ((first second third : List ℕ) → A first second → F second third → G first third) → Wrote m c d A
+      → MatchResult answer (λ out. Wrote m d e (B out)) (λ cause. Failed m d e own F cause)
+      → MatchResult answer (λ out. Wrote m c e (D out)) (λ cause. Failed m c e own G cause)
+  told_failing c d e own A B D F G (Ok out) both fail p q = wrote_then c d e A (B out) (D out) (both out) p q
+  told_failing c d e own A B D F G (Err cause) both fail p q = fail_wrote c d e own A F G cause fail p q
+
+  -- ---- what is owed
+
+  -- Calls that change no write leave what was owed.
+  pub owing_same : (may : L → List ℕ → List ℕ → Type 0) (c d : S) → m.law d ≡ m.law c → (m.state d).size ≡ (m.state c).size
+      → (m.state d).now.writes ≡ (m.state c).now.writes → Extends (m.state c).reads (m.state d).reads
+      → ((m.state d).cause ≡ None → (m.state c).cause ≡ None)
+      → Owing (m.lawful (m.law c)) (may (m.law c)) (m.state c) → Owing (m.lawful (m.law d)) (may (m.law d)) (m.state d)
+  owing_same may c d law size writes reads causes owing going = rw law
+      (Owes-later (m.lawful (m.law c)) (may (m.law c)) (m.state c) (m.state d) size writes reads (owing (causes going)))
+
+  pub owing_read : (may : L → List ℕ → List ℕ → Type 0) (c d : S) (fact : List ℕ → Type 0) → Read m c d fact
+      → Owing (m.lawful (m.law c)) (may (m.law c)) (m.state c) → Owing (m.lawful (m.law d)) (may (m.law d)) (m.state d)
+  owing_read may c d fact p = owing_same may c d p.same_law (read_size c d fact p) (ap (λ (x : CellsState). x.now.writes) p.states.only_reads) p.states.reads
+      (λ going. sym (ap (λ (x : CellsState). x.cause) p.states.only_reads) ∙ going)
+
+  -- Writes that lead from lawful heaps to lawful ones that they may become leave what was owed.
+  pub owing_wrote : (may : L → List ℕ → List ℕ → Type 0)
+      → ((l : L) (first second third : List ℕ) → m.lawful l first → m.lawful l second → m.lawful l third → may l first second → may l second third → may l first third)
+      → (c d : S) (step : List ℕ → List ℕ → Type 0)
+      → ((before after : List ℕ) → m.lawful (m.law c) before → step before after → m.lawful (m.law c) after × may (m.law c) before after)
+      → Wrote m c d step
+      → Owing (m.lawful (m.law c)) (may (m.law c)) (m.state c) → Owing (m.lawful (m.law d)) (may (m.law d)) (m.state d)
+  owing_wrote may trans c d step keeps p owing going heap possible =
+      let law : m.law d ≡ m.law c = p.same_law in
+      let size : (m.state d).size ≡ (m.state c).size = wrote_size c d step p in
+      let here : IsPossible (m.lawful (m.law c)) (m.state c).size (m.state d).reads heap =
+      subst (λ l. IsPossible (m.lawful l) (m.state c).size (m.state d).reads heap) law
+      (subst (λ n. IsPossible (m.lawful (m.law d)) n (m.state d).reads heap) size possible) in
+      let before = IsPossible-before (m.lawful (m.law c)) (m.state c).size (m.state c).reads (m.state d).reads heap p.states.reads here in
+      let old = owing (sym (ap (λ (x : CellsState). x.cause) p.states.only_writes) ∙ going) heap before in
+      let new = keeps (over heap (m.state c).now.writes) (over heap (m.state d).now.writes) old.0 (p.states.each heap here) in
+      rw law (new.0, trans (m.law c) heap (over heap (m.state c).now.writes) (over heap (m.state d).now.writes) here.keeps_law old.0 new.0 old.1 new.1)
+
+  -- Who was refused something owes nothing.
+  pub owing_stopped : (may : L → List ℕ → List ℕ → Type 0) (c d : S) (cause : Cause) → Stopped m c d cause
+      → Owing (m.lawful (m.law d)) (may (m.law d)) (m.state d)
+  owing_stopped may c d cause p going = let never : Some cause ≡ None = sym p.states.stopped ∙ going in cc
+
+-- What is owed contains that heaps stay lawful.
+pub owing_lawful : (lawful : List ℕ → Type 0) (may : List ℕ → List ℕ → Type 0) (s : CellsState) → Owing lawful may s → StaysLawful lawful s
+owing_lawful lawful may s owing going heap possible = (owing going heap possible).0
 
 -- ---- what is known at a moment
 

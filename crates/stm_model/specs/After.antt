@@ -64,7 +64,7 @@ stopped t cause = at t (Stopped cause)
 
 -- ---- it is rolled back
 
--- Each cell that it holds is given back. Then its status is stored.
+-- Each cell that it holds is released. Then its status is stored.
 abbrev pub roll_on : Attempt → List Write → Attempt
 roll_on t [] = at t Close
 roll_on t (write ∷ behind) = at t (RollBack write behind)
@@ -80,7 +80,7 @@ abbrev pub read_again : Attempt → ℕ → ℕ → Cause → Attempt
 read_again t cell zero cause = stopped t cause
 read_again t cell (suc left) cause = at t (ReadMeta cell left)
 
--- A first look: the round is over where another is changing the cell, and an extension comes first where the version is past the prefix.
+-- The meta word is loaded: the round is over where another is changing the cell, and an extension comes first where the version is past the prefix.
 unfoldable pub meta_read : Attempt → ℕ → ℕ → Meta → Attempt
 meta_read t cell left first =
     if changing_by_another t.own first then read_again t cell left (ReadConflict (addr_of cell) first) else
@@ -91,23 +91,23 @@ abbrev pub extend_on : Attempt → ℕ → ℕ → Meta → ℕ → List Note �
 extend_on t cell left first clock [] = at (record t { prefix = clock }) (ReadValue cell left first)
 extend_on t cell left first clock (note ∷ behind) = at t (ExtendNote cell left first clock note behind)
 
--- A look at a noted cell, for an extension.
+-- A note is validated, for an extension.
 unfoldable pub extended : Attempt → ℕ → ℕ → Meta → ℕ → Note → List Note → Meta → Attempt
 extended t cell left first clock note behind found =
     if still_has t.own note.version found
     then extend_on t cell left first clock behind
     else stopped t (stale note found)
 
--- A second look: the value is noted where the cell still stands as at the first.
+-- The meta word is validated: the value is noted where the cell still stands as it was loaded.
 unfoldable pub validated : Attempt → ℕ → ℕ → Meta → ℕ → Meta → Attempt
 validated t cell left first value second =
     if still_has t.own first.version second
     then answer_with (record t { notes = t.notes ++ record { addr = addr_of cell; version = first.version; value = value } ∷ [] }) value
     else read_again t cell left (Moved (addr_of cell) first second)
 
--- ---- it takes a cell that it writes for the first time
+-- ---- it acquires a cell that it writes for the first time
 
--- Why a first write is refused: another owns the cell, or it has moved since the first look.
+-- Why a first write is refused: another owns the cell, or it has moved since its meta word was loaded.
 abbrev pub write_refused : ℕ → ℕ → Meta → Meta → Cause
 write_refused own cell first latest =
     if owned_by_another own latest then WriteConflict (addr_of cell) latest else Moved (addr_of cell) first latest
@@ -124,7 +124,7 @@ doom_or_again t cell value left tried first =
     then at t (OwnerStatus cell value left first)
     else acquire_again t cell value left tried first first
 
--- A first look at a cell that is to be taken. Where nobody owns it, it is exchanged.
+-- The meta word of a cell that is to be acquired is loaded. Where nobody owns the cell, it is exchanged.
 unfoldable pub acquiring : Attempt → ℕ → ℕ → ℕ → Bool → Meta → Attempt
 acquiring t cell value left tried first =
     if owned_by_another t.own first
@@ -150,7 +150,7 @@ exchanged t cell value left tried first expected again found =
     then at t (Acquire cell value left tried first found true)
     else acquire_again t cell value left tried first found
 
--- Only an active owner is looked at again.
+-- Only where the owner is active the cell is validated.
 unfoldable pub owner_status_loaded : Attempt → ℕ → ℕ → ℕ → Meta → TxnStatus → Attempt
 owner_status_loaded t cell value left first status =
     if is_active status.phase
@@ -166,7 +166,7 @@ owner_validated t cell value left first status second =
 
 -- ---- it undoes a level
 
--- The cells that were first written in the level are given back. Then the book is the one from before it, and its handlers are due.
+-- The cells that were first written in the level are released. Then the book is the one from before it, and its handlers are due.
 abbrev pub release_level_on : Attempt → List Write → List Write → Attempt
 release_level_on t kept [] = done (record t {
   now = returned t.saved t.now;
@@ -189,7 +189,7 @@ prepared t found =
     then mark_on (record t { phase = Preparing; due = run_all (preparing t.now.hooks) }) t.now.writes
     else rolled t (Doomed found)
 
--- The notes are checked one after another. Then the clock is tried for, unless it is at its limit.
+-- The notes are validated one after another. Then the clock is tried for, unless it is at its limit.
 unfoldable pub validate_on : Attempt → ℕ → ℕ → List Note → Attempt
 validate_on t lost clock [] =
     if nat_eq clock t.settings.clock
@@ -197,7 +197,7 @@ validate_on t lost clock [] =
     else at t (Decide lost clock)
 validate_on t lost clock (note ∷ behind) = at t (CommitNote lost clock note behind)
 
--- A look at a noted cell, for a commit.
+-- A note is validated, for a commit.
 unfoldable pub note_validated : Attempt → ℕ → ℕ → Note → List Note → Meta → Attempt
 note_validated t lost clock note behind found =
     if still_has t.own note.version found

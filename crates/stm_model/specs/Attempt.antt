@@ -24,26 +24,26 @@ pub data Stage : Type 0 where
   Begin : Stage
   -- it waits to be asked, and the last ask was answered by a value or by none
   Ready : (told : Option ℕ) → Stage
-  -- it has come to a late body, and waits to be asked by it
+  -- it has come to a before-commit body, and waits to be asked by it
   Late : (token : ℕ) → Stage
   -- it was refused something and waits to be rolled back
   Stopped : (cause : Cause) → Stage
-  -- it reads a cell: the metadata, an extension where that is newer than the prefix, the value, the metadata again
+  -- it reads a cell: it loads the meta word, extends where that is newer than the prefix, loads the value, and validates the meta word
   ReadMeta : (cell left : ℕ) → Stage
   ExtendClock : (cell left : ℕ) → (first : Meta) → Stage
   ExtendNote : (cell left : ℕ) → (first : Meta) → (clock : ℕ) → (note : Note) → (behind : List Note) → Stage
   ReadValue : (cell left : ℕ) → (first : Meta) → Stage
   Validate : (cell left : ℕ) → (first : Meta) → (value : ℕ) → Stage
-  -- it takes a cell that it is to write: the metadata, then an exchange of it, a second one where only the pending bit came between
+  -- it acquires a cell that it is to write: it loads the meta word and exchanges it, a second time where only the pending bit came between
   AcquireMeta : (cell value left : ℕ) → (tried : Bool) → Stage
   Acquire : (cell value left : ℕ) → (tried : Bool) → (first expected : Meta) → (again : Bool) → Stage
-  -- it looks whether the cell's owner can be doomed, and dooms it
+  -- it loads the status of the cell's owner, validates the cell, and dooms the owner
   OwnerStatus : (cell value left : ℕ) → (first : Meta) → Stage
   OwnerMeta : (cell value left : ℕ) → (first : Meta) → (status : TxnStatus) → Stage
   DoomOwner : (cell value left : ℕ) → (first second : Meta) → (status : TxnStatus) → Stage
-  -- it undoes a level: the cells that were first written there are given back, and these writes stay
+  -- it undoes a level: it releases the cells that were first written there, and these writes stay
   ReleaseLevel : (kept : List Write) → (write : Write) → (behind : List Write) → Stage
-  -- it commits: its status, a mark on each cell, the clock, its notes, the clock's exchange, the values, the release of each cell
+  -- it commits: it prepares, marks each cell, loads the clock, validates its notes, decides by an exchange of the clock, stores the values, and releases each cell
   Prepare : Stage
   Mark : (write : Write) → (behind : List Write) → Stage
   CommitClock : (lost : ℕ) → Stage
@@ -51,7 +51,7 @@ pub data Stage : Type 0 where
   Decide : (lost clock : ℕ) → Stage
   StoreValues : (write : Write) → (behind : List Write) → Stage
   Release : (write : Write) → (behind : List Write) → Stage
-  -- it is rolled back: each cell is given back
+  -- it is rolled back: it releases each cell
   RollBack : (write : Write) → (behind : List Write) → Stage
   -- its status word is stored, and it is over
   Close : Stage
@@ -76,7 +76,7 @@ pub record Attempt : Type 0 where
   -- the book now, and as it was where each open level began, the innermost first
   pub now : Book
   pub saved : List Book
-  -- how many late bodies it has come to
+  -- how many before-commit bodies it has come to
   pub turn : ℕ
   -- how it ends, once that is certain
   pub ending : Option Ending

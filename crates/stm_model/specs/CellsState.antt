@@ -6,7 +6,7 @@ use Rattle.stm_model.specs.declared.note.Note.{Note}
 use Rattle.stm_model.specs.Handlers.{Handlers, undoing}
 use Rattle.stm_model.specs.Heap.{put}
 
--- what is written, which handlers and which late bodies are registered, and which handlers have run where something was undone
+-- what is written, which handlers and which before-commit bodies are registered, and which handlers have run where something was undone
 pub record Book : Type 0 where
   pub writes : List (ℕ × ℕ)
   pub hooks : Handlers

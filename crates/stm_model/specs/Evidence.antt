@@ -8,7 +8,7 @@ use Rattle.stm_model.specs.declared.cause.Cause.TheVariants.{AttemptsEnd, ClockE
 use Rattle.stm_model.specs.declared.settings.Settings.{Settings}
 use Rattle.stm_model.specs.Refusing.{IsFull, IsTooDeep}
 
--- Between two looks the cell was written, or another began to change it, or another that owned it has let it go.
+-- Between two loads of its meta word the cell was written, or another began to change it, or another that owned it has let it go.
 abbrev pub HasMoved : ℕ → Meta → Meta → Type 0
 HasMoved own first second =
     (first.version ≢ second.version)
@@ -19,7 +19,7 @@ HasMoved own first second =
 abbrev pub IsStale : ℕ → ℕ → Meta → Type 0
 IsStale own version meta = (meta.version ≢ version) ⊎ IsTrue (changing_by_another own meta)
 
--- What a cause shows to the caller of this number. A retry and a failure are the body's word, and want of memory shows nothing.
+-- What a cause shows to the caller of this number. A retry and a failure are the body's word, and that memory is out shows nothing.
 unfoldable pub Evidence : ℕ → Settings → Cause → Type 0
 Evidence own settings (ReadConflict addr meta) = IsTrue (changing_by_another own meta)
 Evidence own settings (Moved addr first second) = HasMoved own first second

@@ -20,5 +20,9 @@ pub mod Moves
 pub mod Waiting
 pub mod World
 pub mod Rows
+pub mod Sizes
+pub mod Layouts
 pub mod Evidence
+pub mod FirstUse
+pub mod HandlerRuns
 pub mod Safe

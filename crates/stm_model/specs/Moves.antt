@@ -19,7 +19,7 @@ use Rattle.stm_model.specs.Refusing.{IsOfBody, deepest}
 
 -- ---- the asks of a body
 
--- what is read of a cell that isn't buffered: its noted value, or else it is looked at
+-- what is read of a cell that isn't buffered: its noted value, or else what is read now
 abbrev pub read_noted : Attempt → ℕ → Option Note → Attempt
 read_noted t cell (Some note) = answer_with t note.value
 read_noted t cell None = at t (ReadMeta cell (looks t.settings.policy))
@@ -29,7 +29,7 @@ abbrev pub read_buffered : Attempt → ℕ → Option ℕ → Attempt
 read_buffered t cell (Some value) = answer_with t value
 read_buffered t cell None = read_noted t cell (note_of t.notes cell)
 
--- A cell that is written for the first time has to be taken.
+-- A cell that is written for the first time has to be acquired.
 abbrev pub write_cell : Attempt → ℕ → ℕ → Attempt
 write_cell t cell value =
     if writes_to t.now.writes cell
@@ -40,7 +40,7 @@ write_cell t cell value =
 abbrev pub enter_level : Attempt → Attempt
 enter_level t = if nat_lt (length t.saved) deepest then done (record t { saved = t.now ∷ t.saved }) else stopped t (TooDeep deepest)
 
--- What was first written in the innermost level is given back.
+-- The cells that were first written in the innermost level are released.
 abbrev pub undo_level : Attempt → List Book → Attempt
 undo_level t [] = t
 undo_level t (former ∷ books) = release_level_on t former.writes (drop (length former.writes) t.now.writes)
@@ -52,12 +52,12 @@ abbrev pub conclude : Attempt → List Write → Attempt
 conclude t [] = at (record t { ending = Some (Read t.prefix); due = run_all (preparing t.now.hooks ++ committing t.now.hooks) }) Close
 conclude t (write ∷ writes) = at t Prepare
 
--- The next late body has its turn, and where there is none the end has come.
+-- The next before-commit body has its turn, and where there is none the end has come.
 abbrev pub turn_to : Attempt → List ℕ → Attempt
 turn_to t [] = conclude t t.now.writes
 turn_to t (token ∷ tokens) = at (record t { turn = suc t.turn }) (Late token)
 
--- the next late body, or the end
+-- the next before-commit body, or the end
 abbrev pub go_on : Attempt → Attempt
 go_on t = turn_to t (drop t.turn t.now.laters)
 
@@ -83,14 +83,14 @@ asked_stopped t cause Finish = rolled t cause
 asked_stopped t cause (Abandon other) = rolled t cause
 asked_stopped t cause _ = t
 
--- an attempt that stands so, after an ask
+-- an attempt at this stage, after an ask
 unfoldable pub asked_at : Attempt → Stage → Ask → Attempt
 asked_at t (Ready answer) ask = asked_going t ask
 asked_at t (Late token) ask = asked_going t ask
 asked_at t (Stopped cause) ask = asked_stopped t cause ask
 asked_at t _ ask = t
 
--- A late body is over.
+-- A before-commit body is over.
 unfoldable pub late_over_at : Attempt → Stage → Attempt
 late_over_at t (Ready answer) = go_on t
 late_over_at t (Late token) = go_on t
@@ -111,12 +111,12 @@ begun t settings = record (no_attempt t.own settings) { serial = suc t.serial; s
 
 -- a local move
 pub data Move : Type 0 where
-  -- an ask is taken, or refused for want of memory
+  -- an ask is taken, or refused where memory is out
   Takes : (ask : Ask) → Move
   OutOfMemory : (ask : Ask) → Move
   -- what is due first is done
   Does : Move
-  -- a late body is over
+  -- a before-commit body is over
   EndsLate : Move
   -- the next attempt begins
   Begins : (settings : Settings) → Move
@@ -168,7 +168,7 @@ MayAsk size t Finish = t.turn ≡ 0
 MayAsk size t (Abandon cause) = MayAbandon t cause
 MayAsk size t _ = Unit {0}
 
--- A first read, a write, a level, a handler and a late body may want memory.
+-- A first read, a write, a level, a handler and a before-commit body may find memory out.
 unfoldable pub MayRunOut : Attempt → Ask → Type 0
 MayRunOut t (Get cell) = IsFalse (writes_to t.now.writes cell.0) × (note_of t.notes cell.0 ≡ None)
 MayRunOut t (Set cell value) = Unit {0}

@@ -7,7 +7,7 @@ use Rattle.stm_model.specs.Owes.{IsPossible, Owes}
 use Rattle.stm_model.specs.Refusing.{IsOfBody}
 use Rattle.stm_model.specs.Telling.{Extends, Leads}
 
--- an answer that the heap decides: each one but want of memory
+-- an answer that the heap decides: each one but that memory is out
 abbrev pub IsDecided : {T : Type 0} → Result T Cause → Type 0
 IsDecided (Ok out) = Unit {0}
 IsDecided (Err Memory) = ⊥

@@ -68,7 +68,7 @@ IsOfWrite reads address (Moved cell first second) = cell.0 ≡ address
 IsOfWrite reads address (Stale cell version meta) = (cell.0 ≡ address) × NotesVersion reads cell version
 IsOfWrite reads address _ = ⊥
 
--- A write of a cell is refused with one of these causes, and only where it is not written yet, or for want of memory.
+-- A write of a cell is refused with one of these causes, and only where it is not written yet, or where memory is out.
 abbrev pub RefusesWrite : CellsState → ℕ → Cause → Type 0
 RefusesWrite state address cause =
     ((writes_to state.now.writes address ≡ false) × IsOfWrite state.reads address cause) ⊎ (cause ≡ Memory)
@@ -78,6 +78,6 @@ abbrev pub RefusesLevel : ℕ → Cause → Type 0
 RefusesLevel open_levels cause =
     ((deepest ≤ open_levels) × (cause ≡ TooDeep deepest)) ⊎ ((open_levels < deepest) × (cause ≡ Memory))
 
--- The registration of a handler or of a late body is refused for want of memory alone.
+-- The registration of a handler or of a before-commit body is refused where memory is out, and else never.
 abbrev pub RefusesRegistration : Cause → Type 0
 RefusesRegistration cause = cause ≡ Memory

@@ -84,7 +84,7 @@ stale = Stale (addr_of 0) 0 (released 1)
 abbrev pub counter : List Event → World
 counter = world_after (0 ∷ []) (Look 0)
 
--- Both have read when the first takes the cell and commits. Then the second looks at it.
+-- Both have read when the first acquires the cell and commits. Then the second comes to it.
 abbrev pub lost_update : List Event
 lost_update =
     begins (Look 0) 1 ++ gets 1 0 3 ++ sets 1 0 1 0 ++ begins (Look 0) 2 ++ gets 2 0 3 ++ sets 2 0 1 0 ++
@@ -102,7 +102,7 @@ lost_update_counted = lost_update_rolled ++ begins (Look 0) 2 ++ gets 2 0 3 ++ s
 abbrev pub pair : List Event → World
 pair = world_after (1 ∷ 1 ∷ []) (Look 0)
 
--- Both callers have read both cells, and each has taken one to write the sum to it. The second is preparing.
+-- Both callers have read both cells, and each has acquired one to write the sum to it. The second is preparing.
 abbrev pub skew : List Event
 skew =
     begins (Look 0) 1 ++ gets 1 0 3 ++ gets 1 1 3 ++ sets 1 0 2 2 ++ finishes 1 0 ++
@@ -126,7 +126,7 @@ overtaken =
     begins (Look 0) 1 ++ gets 1 0 3 ++ gets 1 1 0 ++
     begins (Look 0) 2 ++ sets 2 0 5 2 ++ sets 2 1 5 2 ++ finishes 2 10
 
--- The first looks at cell 1, which is newer than its prefix, at the clock, and at cell 0 again.
+-- The first loads the meta word of cell 1, which is newer than its prefix, then the clock, and validates cell 0.
 abbrev pub overtaken_found : List Event
 overtaken_found = overtaken ++ steps 1 3
 
@@ -152,7 +152,7 @@ passed_read = passed_extended ++ finishes 1 1
 
 -- ---- a writer between two values
 
--- The second is decided and has stored one of its two values. The first looks at that cell.
+-- The second is decided and has stored one of its two values. The first reads that cell.
 abbrev pub between : List Event
 between =
     begins (Look 0) 2 ++ sets 2 0 5 2 ++ sets 2 1 5 2 ++ finishes 2 6 ++

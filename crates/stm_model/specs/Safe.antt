@@ -69,18 +69,18 @@ pub record IsToRead (terms : Terms) (t : Attempt) (cell : ℕ) : Type 0 where
   pub unwritten : IsFalse (writes_to t.now.writes cell)
   pub unnoted : note_of t.notes cell ≡ None
 
--- The cell may be taken: it is one of the heap, and not written.
+-- The cell may be acquired: it is one of the heap, and not written.
 pub record IsToWrite (terms : Terms) (t : Attempt) (cell value : ℕ) : Type 0 where
   pub in_range : cell < cells_in terms
   pub unwritten : IsFalse (writes_to t.now.writes cell)
   pub word : value < 2 ^ 64
 
--- A first look showed a word that was not changing by another, of no later version than now.
+-- The meta word that was loaded was not changing by another, and of no later version than now.
 pub record WasSeen (w : World) (t : Attempt) (cell : ℕ) (first : Meta) : Type 0 where
   pub quiet : IsFalse (changing_by_another t.own first)
   pub behind : first.version ≤ (w.meta cell).version
 
--- After a look at this version a value was loaded: it is that version's, or the cell has a later version now, or is being written.
+-- After the meta word of this version a value was loaded: it is that version's, or the cell has a later version now, or is being written.
 abbrev pub WasFetched : Terms → World → (cell version value : ℕ) → Type 0
 WasFetched terms w cell version value =
     (value ≡ value_then terms w version cell) ⊎ (version < (w.meta cell).version) ⊎ (0 < stamp_on w cell)
@@ -115,7 +115,7 @@ pub record WasSampled (w : World) (t : Attempt) (clock : ℕ) (behind : List Not
   pub notes : t.notes ≡ checked ++ behind
   pub each : All (λ note. note.version ≡ last w.history clock note.addr.0) checked
 
--- The level that is undone began with these writes. The cells that were first written since are given back, those behind are still held.
+-- The level that is undone began with these writes. The cells that were first written since are released one by one, and those behind are still held.
 pub record GivesBack (t : Attempt) (kept behind : List Write) : Type 0 where
   pub former : Book
   pub others : List Book
@@ -167,7 +167,7 @@ ClosingPhase (Some (Committed stamp)) phase = phase ≡ Preparing
 ClosingPhase (Some (Rolled cause prefix)) phase = (phase ≡ Active) ⊎ (phase ≡ Preparing)
 ClosingPhase ending phase = phase ≡ Active
 
--- the phases in which an attempt may stand so
+-- the phases that an attempt may have at a stage
 unfoldable pub PhaseAt : Stage → Option Ending → Phase → Type 0
 PhaseAt Announce ending phase = phase ≡ Idle
 PhaseAt Ended ending phase = phase ≡ Idle
@@ -181,7 +181,7 @@ PhaseAt (RollBack write behind) ending phase = ClosingPhase ending phase
 PhaseAt Close ending phase = ClosingPhase ending phase
 PhaseAt stage ending phase = phase ≡ Active
 
--- the endings that may be certain where an attempt stands so: a stamp from the decision on, a cause while it is rolled back
+-- the endings that may be certain at a stage: a stamp from the decision on, a cause while it is rolled back
 unfoldable pub EndingAt : Stage → Option Ending → Type 0
 EndingAt (StoreValues write behind) (Some (Committed stamp)) = Unit {0}
 EndingAt (Release write behind) (Some (Committed stamp)) = Unit {0}

@@ -100,6 +100,11 @@ Writing lawful law follows state before after step = Leads law follows state bef
 abbrev pub Stopping : {S L : Type 0} → (S → L) → (S → S → Type 0) → (S → CellsState) → S → S → Cause → Type 0
 Stopping law follows state before after cause = Leads law follows state before after (Cut cause)
 
+-- A call ended with this cause: cells stopped it, or the cause is one of the call's own, and there were only reads and writes, which stand in this relation.
+abbrev pub Failing : {S L : Type 0} → (L → List ℕ → Type 0) → (S → L) → (S → S → Type 0) → (S → CellsState) → S → S → (Cause → Type 0) → (List ℕ → List ℕ → Type 0) → Cause → Type 0
+Failing lawful law follows state before after own step cause =
+    Stopping law follows state before after cause ⊎ (own cause × Writing lawful law follows state before after step)
+
 -- ---- what is known at a moment
 
 -- No cause was answered, and this holds of each heap that is possible by the notes, under the writes.

@@ -9,7 +9,7 @@ use Rattle.stm_model.specs.Accesses.{Act, Answer, OfMeta, SetPending}
 pub data Waiting : Type 0 where
   -- it goes along its notes
   Watch : (note : Note) → (behind : List Note) → Waiting
-  -- it waits for a cell that another owned when it looked
+  -- it waits for a cell that another owned
   Await : (cell : ℕ) → Waiting
   -- nothing has changed, and it is to be rung for
   Watching : Waiting

@@ -139,7 +139,7 @@ step w p = step_by w p (next (attempt_of w p))
 abbrev pub move : World → ℕ → Move → World
 move w p this = with_view w p (record (w.view p) { attempt = moved (attempt_of w p) this })
 
--- A caller without an attempt in flight may look at the clock.
+-- A caller without an attempt in flight may load the clock.
 abbrev pub look : World → ℕ → World
 look w p = with_view w p (record (w.view p) { seen = w.clock })
 
@@ -150,7 +150,7 @@ wait w p cell =
 
 -- ---- whole runs
 
--- what happens: a caller's attempt makes its next access or a local move, or a caller without one in flight looks at the clock or waits for a cell
+-- what happens: a caller's attempt makes its next access or a local move, or a caller without one in flight loads the clock or waits for a cell
 pub data Event : Type 0 where
   Steps : (caller : ℕ) → Event
   Moves : (caller : ℕ) → (this : Move) → Event
@@ -168,7 +168,7 @@ happened w (Waits p cell) = wait w p cell
 abbrev pub IsCaller : Terms → ℕ → Type 0
 IsCaller terms p = (0 < p) × (p ≤ terms.callers)
 
--- When an event may happen. Number 0 makes no attempts and may look at the clock alone.
+-- When an event may happen. Number 0 makes no attempts and may load the clock alone.
 unfoldable pub MayHappen : Terms → World → Event → Type 0
 MayHappen terms w (Steps p) = IsCaller terms p
 MayHappen terms w (Moves p this) = IsCaller terms p × May (cells_in terms) terms.limit (attempt_of w p) this

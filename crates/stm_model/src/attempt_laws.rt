@@ -1,5 +1,5 @@
 //! The laws of attempts. Each function does nothing: its clauses are theorems.
-ghost use Rattle.std.specs.Prelude.{◌≡◌, ◌<◌, ◌↔◌, ◌⊎◌, ◌++◌, ◌∷◌, [], ℕ, Bool, List, nat_eq, Ok, Option, Some, None, length, replicate, IsTrue};
+ghost use Rattle.std.specs.Prelude.{◌≡◌, ◌<◌, ◌↔◌, ◌⊎◌, ◌++◌, ◌∷◌, [], ℕ, Bool, false, ◌||◌, List, nat_eq, Ok, Option, Some, None, length, replicate, IsFalse, IsTrue};
 ghost use Rattle.stm_model.specs.declared.access.Ask.TheVariants.{Abandon, Enter, Finish, Get, Hook, Keep, Later, Set, Undo};
 ghost use Rattle.std.specs.Map.{lookup};
 ghost use Rattle.meta_word.specs.Meta.{still_has, same_meta};
@@ -11,12 +11,15 @@ ghost use Rattle.stm_model.specs.declared.cause.HookPhase.{HookPhase};
 ghost use Rattle.stm_model.specs.declared.access.Ask.{Ask};
 ghost use Rattle.stm_model.specs.Accesses.{Answer, addr_of, next};
 ghost use Rattle.stm_model.specs.After.{after, answer_with, release_level_on, validated, note_of, exchanged, ring_if, rolled, run_all};
-ghost use Rattle.stm_model.specs.Attempt.{Attempt, Ended, Ready, cause_at, cells_of};
-ghost use Rattle.stm_model.specs.CellsState.{Book, empty_book, late_registered, entered, hooked, kept, undone, written};
-ghost use Rattle.stm_model.specs.Handlers.{Handlers};
+ghost use Rattle.stm_model.specs.Attempt.{Attempt, Ended, Ready, Stopped, cause_at, cells_of, has_prepared};
+ghost use Rattle.stm_model.specs.CellsState.{Book, CellsState, empty_book, late_registered, entered, hooked, kept, undone, written};
+ghost use Rattle.stm_model.specs.FirstUse.{ReadOn, Reads, WriteOn, Writes};
+ghost use Rattle.stm_model.specs.HandlerRuns.{Ends, Step, Undoes, ended_runs, led, prepares_by};
+ghost use Rattle.stm_model.specs.Handlers.{Handlers, failing};
 ghost use Rattle.stm_model.specs.Heap.{writes_to};
-ghost use Rattle.stm_model.specs.Moves.{AwaitsAskAt, Does, EndsLate, IsCall, Takes, moved, moved_on};
-ghost use Rattle.stm_model.specs.Refusing.{deepest};
+ghost use Rattle.stm_model.specs.Moves.{AwaitsAsk, AwaitsAskAt, Does, EndsLate, IsCall, Takes, conclude, moved, moved_on};
+ghost use Rattle.stm_model.specs.Refusing.{RefusesRead, RefusesWrite, deepest};
+ghost use Rattle.stm_model.specs.Telling.{Refused};
 ghost use Rattle.stm_model.specs.Whole.{Whole};
 
 use crate::{Body, Law};
@@ -64,9 +67,40 @@ pub fn what_ends_well_is_noted_or_written()
         cells_of size (exchanged t cell value left tried first expected again found) ≡ written cell value (cells_of size t) }
 {}
 
-/// Once the cells of a level are given back and its handlers have run, the level is undone. It may be
+/// A first read of a cell, access by access. An ask for a cell that is neither written nor noted begins
+/// one and changes nothing that the body sees. After each further access, whatever it found, the read
+/// goes on and the cells are as before, or it told the cell's value, or it was refused with one of the
+/// causes of a read of this cell, and nothing else changed.
+pub fn a_first_read_tells_the_value_or_is_refused<L: Law>()
+    ensures begins { (t : Attempt) (cell : Addr) → AwaitsAskAt t.stage → cause_at t.stage ≡ None →
+        lookup (nat_eq cell.0) t.now.writes ≡ None → note_of t.notes cell.0 ≡ None → Reads cell.0 (moved t (Takes (Get cell))) }
+    ensures same { (size : ℕ) (t : Attempt) (cell : Addr) → AwaitsAskAt t.stage → cause_at t.stage ≡ None →
+        lookup (nat_eq cell.0) t.now.writes ≡ None → note_of t.notes cell.0 ≡ None →
+        cells_of size (moved t (Takes (Get cell))) ≡ cells_of size t }
+    ensures access { (law : L) (size address : ℕ) (t : Attempt) (answer : Answer) → Reads address t →
+        ReadOn (L.lawful law) size address (cells_of size t) (after t answer) }
+    ensures refused { (size address : ℕ) (t : Attempt) (answer : Answer) (cause : Cause) → Reads address t →
+        (after t answer).stage ≡ Stopped cause →
+        Refused (RefusesRead (cells_of size t) address) cause (cells_of size t) (cells_of size (after t answer)) }
+{}
+
+/// A first write of a cell, access by access, likewise: it goes on and the cells are as before, or it is
+/// done, or it was refused with one of the causes of a first write of this cell, and nothing else changed.
+pub fn a_first_write_is_done_or_refused()
+    ensures begins { (t : Attempt) (cell : Addr) (value : ℕ) → AwaitsAskAt t.stage → cause_at t.stage ≡ None →
+        IsFalse (writes_to t.now.writes cell.0) → Writes cell.0 value (moved t (Takes (Set cell value))) }
+    ensures same { (size : ℕ) (t : Attempt) (cell : Addr) (value : ℕ) → AwaitsAskAt t.stage → cause_at t.stage ≡ None →
+        IsFalse (writes_to t.now.writes cell.0) → cells_of size (moved t (Takes (Set cell value))) ≡ cells_of size t }
+    ensures access { (size address value : ℕ) (t : Attempt) (answer : Answer) → Writes address value t →
+        WriteOn size address value (cells_of size t) (after t answer) }
+    ensures refused { (size address value : ℕ) (t : Attempt) (answer : Answer) (cause : Cause) → Writes address value t →
+        (after t answer).stage ≡ Stopped cause →
+        Refused (RefusesWrite (cells_of size t) address) cause (cells_of size t) (cells_of size (after t answer)) }
+{}
+
+/// Once the cells of a level are released and its handlers have run, the level is undone. It may be
 /// rung for the last one of these cells first.
-pub fn a_level_given_back_is_undone()
+pub fn a_released_level_is_undone()
     ensures runs { (size : ℕ) (t : Attempt) (hooks : Handlers) → t.due ≡ run_all hooks →
         cells_of size (moved_on t (replicate (length hooks) Does)) ≡
         record (cells_of size t) { now = record t.now { runs = t.now.runs ++ hooks } } }
@@ -74,6 +108,45 @@ pub fn a_level_given_back_is_undone()
         t.due ≡ ring_if pending cell → 0 < length t.saved → cause_at t.stage ≡ None →
         cells_of size (moved_on (release_level_on t kept []) (replicate (length (release_level_on t kept []).due) Does)) ≡
         undone (cells_of size t) }
+{}
+
+/// The handlers that run at the end of an attempt, in order: all of `completing` where it committed or
+/// only read, and all of `failing` where it was rolled back, after it had begun to prepare or before.
+/// `Ends` begins with the ask or the before-commit body that ends the attempt, and each step keeps it. So it holds of
+/// whole runs, whatever the accesses find.
+pub fn handlers_run_in_order()
+    ensures concluded { (t : Attempt) → t.due ≡ [] → IsFalse (has_prepared t.phase) →
+        Ends t.now.runs t.now.hooks false (conclude t t.now.writes) }
+    ensures rolled_back { (t : Attempt) (cause : Cause) → t.due ≡ [] → IsFalse (has_prepared t.phase) →
+        Ends t.now.runs t.now.hooks false (rolled t cause) }
+    ensures access { (former hooks : Handlers) (prepared : Bool) (t : Attempt) (answer : Answer) → Ends former hooks prepared t →
+        t.due ≡ [] → Ends former hooks (prepared || has_prepared (after t answer).phase) (after t answer) }
+    ensures does { (former hooks : Handlers) (prepared : Bool) (t : Attempt) → Ends former hooks prepared t →
+        Ends former hooks prepared (moved t Does) }
+    ensures over { (former hooks : Handlers) (prepared : Bool) (t : Attempt) → Ends former hooks prepared t → t.stage ≡ Ended → t.due ≡ [] →
+        t.now.runs ≡ former ++ ended_runs prepared t.ending hooks }
+    ensures whole { (t : Attempt) (steps : List Step) → t.due ≡ [] → IsFalse (has_prepared t.phase) →
+        let ending : Attempt = conclude t t.now.writes in
+        let last : Attempt = led ending steps in
+        last.stage ≡ Ended → last.due ≡ [] →
+        last.now.runs ≡ t.now.runs ++ ended_runs (prepares_by ending steps) last.ending t.now.hooks }
+    ensures whole_rolled_back { (t : Attempt) (cause : Cause) (steps : List Step) → t.due ≡ [] → IsFalse (has_prepared t.phase) →
+        let last : Attempt = led (rolled t cause) steps in
+        last.stage ≡ Ended → last.due ≡ [] → last.now.runs ≡ t.now.runs ++ failing false t.now.hooks }
+{}
+
+/// An undo of a level, step by step: its cells are released, then its handlers run, and once nothing is due
+/// the level is undone.
+pub fn a_level_is_undone_in_order()
+    ensures begins { (size : ℕ) (t : Attempt) → AwaitsAsk t → cause_at t.stage ≡ None → 0 < length t.saved →
+        Undoes size (cells_of size t) (moved t (Takes Undo)) }
+    ensures access { (size : ℕ) (before : CellsState) (t : Attempt) (answer : Answer) → Undoes size before t →
+        Undoes size before (after t answer) }
+    ensures does { (size : ℕ) (before : CellsState) (t : Attempt) → Undoes size before t → Undoes size before (moved t Does) }
+    ensures over { (size : ℕ) (before : CellsState) (t : Attempt) → Undoes size before t → AwaitsAsk t →
+        cells_of size t ≡ undone before }
+    ensures whole { (size : ℕ) (t : Attempt) (steps : List Step) → AwaitsAsk t → cause_at t.stage ≡ None → 0 < length t.saved →
+        AwaitsAsk (led (moved t (Takes Undo)) steps) → cells_of size (led (moved t (Takes Undo)) steps) ≡ undone (cells_of size t) }
 {}
 
 /// Who was refused something is refused everything with that cause: nothing but the number of levels
@@ -91,8 +164,8 @@ pub fn who_was_refused_stays_so()
     ensures late { (t : Attempt) (cause : Cause) → cause_at t.stage ≡ Some cause → moved t EndsLate ≡ rolled t cause }
 {}
 
-/// A body that puts nothing off is the whole transaction.
-pub fn a_body_that_puts_nothing_off_is_the_whole<L: Law, B: Body<L>>()
+/// A body that registers no before-commit body is the whole transaction.
+pub fn a_body_without_late_ones_is_the_whole<L: Law, B: Body<L>>()
     ensures { (body left : B) (heap : List ℕ) (out : B.Out) (after : Book) → after.laters ≡ [] →
         (Whole B.means B.late_means body heap out after left ↔ B.means body heap empty_book (Ok out) after left) }
 {}

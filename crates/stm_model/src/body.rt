@@ -34,7 +34,7 @@ pub trait Body<L: Law> {
             (λ heap before. leaves self.old heap before self.new)
             result };
 
-    /// What `run` put off under this token.
+    /// The before-commit body that `run` registered under this token.
     fn late<C: Cells<L>>(&mut self, cells: &mut C, token: u64) -> Result<(), Cause>
         requires fits { fits self.old (C.law cells.old) (C.state cells.old).size }
         requires owes { Owing (L.lawful (C.law cells.old)) (L.may (C.law cells.old)) (C.state cells.old) }

@@ -29,7 +29,7 @@ pub enum Cause {
         addr: Addr,
         meta: Meta,
     },
-    /// The cell's metadata word moved between two looks.
+    /// The cell's metadata word moved after it was loaded.
     Moved {
         addr: Addr,
         first: Meta,
@@ -78,6 +78,6 @@ pub enum Cause {
     AttemptsEnd {
         serial: u64,
     },
-    /// Want of memory.
+    /// Memory was out.
     Memory,
 }

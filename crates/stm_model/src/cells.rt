@@ -1,6 +1,8 @@
 //! What a body sees of the cells: reads and writes in nested levels, handlers, and bodies for later.
 ghost use Rattle.std.specs.Prelude.{◌≡◌, ◌<◌, ◌≤◌, ℕ, length, IfSome, MatchResult};
+ghost use Rattle.std.specs.Map.{values_of};
 ghost use Rattle.stm_model.specs.CellsState.{CellsState, late_registered, hooked, kept, undone, written};
+ghost use Rattle.stm_model.specs.Heap.{AreWords};
 ghost use Rattle.stm_model.specs.Refusing.{IsOfCells, RefusesLevel, RefusesRead, RefusesRegistration, RefusesWrite, deepest};
 ghost use Rattle.stm_model.specs.Telling.{Does, Enters, Got, Leads, Refused, Witness};
 
@@ -68,6 +70,9 @@ pub trait Cells<L: Law> {
 
     /// Some heap is always possible by the notes.
     ghost witness: { (cells : Self) → ∥ Witness (L.lawful (law cells)) (state cells).size (state cells).reads ∥₁ };
+
+    /// All values written are words.
+    ghost words: { (cells : Self) → AreWords (values_of (state cells).now.writes) };
 
     /// The cause is one that cells answer.
     ghost answered: { (cells : Self) → IfSome (state cells).cause IsOfCells };

@@ -1,13 +1,16 @@
 //! The laws of heaps, histories and what is owed. Each function does nothing: its clauses are theorems.
-ghost use Rattle.std.specs.Prelude.{◌≡◌, ◌≢◌, ◌+◌, ◌-◌, ◌<◌, ◌≤◌, ◌^◌, ◌++◌, ◌∷◌, [], ℕ, List, length, nat_eq, slice_index, slice_set, if◌then◌else◌, is_some, IsFalse, IsTrue};
+ghost use Rattle.std.specs.Prelude.{◌≡◌, ◌≢◌, ◌+◌, ◌-◌, ◌<◌, ◌≤◌, ◌^◌, ◌++◌, ◌∷◌, [], ℕ, List, length, nat_eq, slice_index, slice_set, if◌then◌else◌, is_some, None, IsFalse, IsTrue};
 ghost use Rattle.std.specs.List.{All, IsDistinct};
 ghost use Rattle.std.specs.Map.{keys_of, lookup, values_of};
+ghost use Rattle.stm_model.specs.declared.cause.Cause.{Cause};
 ghost use Rattle.stm_model.specs.declared.note.Note.{Note};
 ghost use Rattle.stm_model.specs.Heap.{Agrees, AreWords, over, put, writes_to};
 ghost use Rattle.stm_model.specs.History.{Entry, IsCurrent, IsEntry, IsLegal, entry_after, last, state};
 ghost use Rattle.stm_model.specs.Owes.{Owes};
+ghost use Rattle.stm_model.specs.Sizes.{IsWithinLimits, cells_needed};
+ghost use Rattle.stm_model.specs.Telling.{Extends, Owing, Reading, StaysLawful, Stopping, Writing};
 
-use crate::{Free, Law};
+use crate::{Cells, Free, Law};
 
 /// Putting one write more into a list of writes is writing that cell after all of them. Of each cell
 /// there is still one write at most.
@@ -95,8 +98,40 @@ pub fn reads_owe_nothing<L: Law>()
         Owes (L.lawful law) (L.may law) size reads writes → Owes (L.lawful law) (L.may law) size (reads ++ more) writes }
 {}
 
+/// What is owed from one moment of cells to the next, under any law. Who only reads keeps what was owed,
+/// and so does who changes no write, as in an undo of what was written since. Who writes keeps it where each
+/// lawful heap becomes a lawful one that it may become. Who was refused something owes nothing. What is owed
+/// contains that heaps stay lawful. A body that shows this of its calls shows what it owes at its end.
+pub fn what_is_owed_stays_owed<L: Law, C: Cells<L>>()
+    ensures read { (before after : C) → Reading L.lawful C.law C.follows C.state before after (λ heap. Unit {0}) →
+        Owing (L.lawful (C.law before)) (L.may (C.law before)) (C.state before) →
+        Owing (L.lawful (C.law after)) (L.may (C.law after)) (C.state after) }
+    ensures written { (before after : C) → Writing L.lawful C.law C.follows C.state before after
+        (λ first second. L.lawful (C.law before) first → L.lawful (C.law before) second × L.may (C.law before) first second) →
+        Owing (L.lawful (C.law before)) (L.may (C.law before)) (C.state before) →
+        Owing (L.lawful (C.law after)) (L.may (C.law after)) (C.state after) }
+    ensures same_writes { (before after : C) → C.law after ≡ C.law before → (C.state after).size ≡ (C.state before).size →
+        (C.state after).now.writes ≡ (C.state before).now.writes → Extends (C.state before).reads (C.state after).reads →
+        ((C.state after).cause ≡ None → (C.state before).cause ≡ None) →
+        Owing (L.lawful (C.law before)) (L.may (C.law before)) (C.state before) →
+        Owing (L.lawful (C.law after)) (L.may (C.law after)) (C.state after) }
+    ensures stopped { (before after : C) (cause : Cause) → Stopping C.law C.follows C.state before after cause →
+        Owing (L.lawful (C.law after)) (L.may (C.law after)) (C.state after) }
+    ensures lawful { (cells : C) → Owing (L.lawful (C.law cells)) (L.may (C.law cells)) (C.state cells) →
+        StaysLawful (L.lawful (C.law cells)) (C.state cells) }
+{}
+
 /// Under the free law whatever is written is what is owed.
 pub fn free_allows_all_writes()
     ensures { (law : Free) (size : ℕ) (reads : List Note) (writes : List (ℕ × ℕ)) →
         Owes (⟦<Free as Law>⟧.lawful law) (⟦<Free as Law>⟧.may law) size reads writes }
+{}
+
+/// A layout by hand: two refs, one map, one snapshot slot and two stripes of three blocks each take
+/// 2 + 2 + 1 + 2 + 108 cells, in six blocks. With no stripe there is none, and it would have 5 cells.
+pub fn a_layout_of_two_stripes()
+    ensures within { IsWithinLimits 2 1 1 2 3 }
+    ensures cells { cells_needed 2 1 1 2 3 ≡ 115 }
+    ensures none { IsWithinLimits 2 1 1 0 3 → ⊥ }
+    ensures no_stripe { cells_needed 2 1 1 0 3 ≡ 5 }
 {}

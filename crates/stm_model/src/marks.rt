@@ -1,4 +1,4 @@
-//! Nested levels: how deep they nest, and marks to go back to, taken where one is entered.
+//! Nested levels: how deep they nest, and marks of where one began, for its undo.
 
 /// How many levels may be open at once.
 pub const DEEPEST: u32 = 64;

@@ -28,7 +28,7 @@ pub fn no_sum_is_skewed()
     ensures owners { ((pair skew).meta 0 ≡ owned 1 unwritten) × ((pair skew).meta 1 ≡ owned 2 unwritten) }
     ensures stale { (attempt_of (pair skew_found) 2).ending ≡ Some (Rolled stale 0) }
     ensures marked { (pair skew_found).meta 1 ≡ record (owned 2 unwritten) { changing = true } }
-    ensures given_back { ((pair skew_undone).meta 1 ≡ unwritten) × ((pair skew_undone).value 1 ≡ 1) }
+    ensures rolled_back { ((pair skew_undone).meta 1 ≡ unwritten) × ((pair skew_undone).value 1 ≡ 1) }
     ensures summed { (attempt_of (pair skew_summed) 2).ending ≡ Some (Committed 2) }
     ensures values { ((pair skew_summed).value 0 ≡ 2) × ((pair skew_summed).value 1 ≡ 3) }
     ensures over { AreOver (pair skew_summed) }
@@ -97,7 +97,7 @@ pub fn a_doomed_owner_rolls_back()
     ensures refused { (attempt_of (dooming doom) 2).stage ≡ Stopped held }
     ensures found { (attempt_of (dooming doom_found) 1).ending ≡ Some (Rolled by_another 0) }
     ensures told { (attempt_of (dooming doom_found) 1).notes ≡ noted 1 0 3 ∷ [] }
-    ensures given_back { (dooming doom_rolled).meta 0 ≡ unwritten }
+    ensures rolled_back { (dooming doom_rolled).meta 0 ≡ unwritten }
     ensures rolled { (attempt_of (dooming doom_rolled) 2).ending ≡ Some (Rolled held 0) }
     ensures history { (dooming doom_written).history ≡
         entry 1 2 (noted 1 0 3 ∷ []) ((0, 1) ∷ []) ∷ entry 2 2 [] ((0, 2) ∷ []) ∷ [] }

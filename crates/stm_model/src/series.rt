@@ -4,7 +4,7 @@ ghost use Rattle.std.specs.Prelude.{◌≡◌, [], ◌∷◌, ◌++◌, ◌<◌,
 use std::alloc::{AllocError, AllocFailed, Global};
 use std::marker::Model;
 
-/// Want of memory.
+/// Memory is out.
 #[derive(Clone, Copy, Debug, PartialEq, Eq)]
 pub struct Memory;
 

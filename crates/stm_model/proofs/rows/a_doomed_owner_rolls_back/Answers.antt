@@ -20,9 +20,9 @@ pub returns-clause-told : goal.returns-clause-told
 unfolding computes
 returns-clause-told c = refl
 
-pub returns-clause-given_back : goal.returns-clause-given_back
+pub returns-clause-rolled_back : goal.returns-clause-rolled_back
 unfolding computes
-returns-clause-given_back c = refl
+returns-clause-rolled_back c = refl
 
 pub returns-clause-rolled : goal.returns-clause-rolled
 unfolding computes

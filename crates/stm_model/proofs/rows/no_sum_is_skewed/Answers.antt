@@ -16,9 +16,9 @@ pub returns-clause-marked : goal.returns-clause-marked
 unfolding computes
 returns-clause-marked c = refl
 
-pub returns-clause-given_back : goal.returns-clause-given_back
+pub returns-clause-rolled_back : goal.returns-clause-rolled_back
 unfolding computes
-returns-clause-given_back c = (refl, refl)
+returns-clause-rolled_back c = (refl, refl)
 
 pub returns-clause-summed : goal.returns-clause-summed
 unfolding computes

@@ -1,6 +1,6 @@
 use Rattle.std.proofs.Common.{◌≡◌, length, rules, arith, ap}
 use Rattle.stm_model.specs.CellsState.{Book}
-use Rattle.plain_cells.proofs.Nested.{Nest-empty}
+use Rattle.plain_cells.proofs.Nested.{Nest-empty, WriteWords-empty}
 use Rattle.plain_cells.proofs.Notes.{Agrees-empty}
 use Rattle.plain_cells.proofs.cells.PlainCells.new.Goals as goal
 
@@ -15,5 +15,6 @@ invariant_of-result g c =
       room = omega arith;
       depth = omega (arith, c.new-3.ensures.len);
       nested = Nest-empty _ c.new-3.result.items c.new-3.ensures.items;
+      written = WriteWords-empty c.new-2.result c.new-3.result.items c.new-2.ensures c.new-3.ensures.items;
       answer = tt;
     }

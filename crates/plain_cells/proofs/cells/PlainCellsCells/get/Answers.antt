@@ -49,6 +49,7 @@ invariant_of-self g c = let cells = c.args.self.now in
       room = cells.room;
       depth = cells.depth;
       nested = cells.nested;
+      written = cells.written;
       answer = rw c.refuse.ensures.kept tt;
     }
 

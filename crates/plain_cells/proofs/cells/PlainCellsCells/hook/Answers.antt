@@ -1,6 +1,6 @@
 use Rattle.std.proofs.Common.{◌≡◌, ◌+◌, ◌∷◌, [], length, arith, ap, ◌∙◌, length-append}
 use Rattle.stm_model.specs.CellsState.{Book}
-use Rattle.plain_cells.proofs.Nested.{Nest-more}
+use Rattle.plain_cells.proofs.Nested.{Nest-more, WriteWords-same}
 use Rattle.plain_cells.proofs.cells.PlainCellsCells.hook.Goals as goal
 
 pub invariant_of-self : goal.invariant_of-self
@@ -13,6 +13,7 @@ invariant_of-self g c = let cells = c.args.self.now in
       room = c.in-Err.ensures.room;
       depth = cells.depth;
       nested = Nest-more _ _ cells.saved.items (omega arith) cells.nested;
+      written = WriteWords-same cells.book c.add_hook.new.book cells.saved.items (ap (λ (b : Book). b.writes) c.in-Err.ensures.err) cells.written;
       answer = rw c.refuse.ensures.kept tt;
     }
 
@@ -27,5 +28,6 @@ invariant_of-self-in_default-add_hook g c = let cells = c.args.self.now in
       room = c.in_default-add_hook.ensures.room;
       depth = cells.depth;
       nested = Nest-more _ _ cells.saved.items (omega (arith, more)) cells.nested;
+      written = WriteWords-same cells.book c.add_hook.new.book cells.saved.items (ap (λ (b : Book). b.writes) c.in_default-add_hook.ensures.ok) cells.written;
       answer = cells.answer;
     }

@@ -1,5 +1,5 @@
 use Rattle.std.proofs.Common.{arith}
-use Rattle.plain_cells.proofs.Nested.{Nest-left}
+use Rattle.plain_cells.proofs.Nested.{Nest-left, WriteWords-left}
 use Rattle.plain_cells.proofs.cells.PlainCellsCells.undo.Goals as goal
 
 pub invariant_of-self-else-is_none : goal.invariant_of-self-else-is_none
@@ -11,5 +11,6 @@ invariant_of-self-else-is_none g c = let cells = c.args.self.now in record {
   room = cells.room;
   depth = omega (arith, cells.depth, c.remove-former.ensures.len);
   nested = Nest-left _ cells.saved.items _ c.remove-former.result (omega arith) c.remove-former.ensures.value c.remove-former.ensures.items cells.nested;
+  written = (cells.written.0, WriteWords-left cells.saved.items _ c.remove-former.ensures.items cells.written.1);
   answer = cells.answer;
 }

@@ -1,8 +1,0 @@
-use Rattle.stm_model.proofs.AttemptLemmas.{given-back-is-undone, runs-due}
-use Rattle.stm_model.proofs.attempt_laws.a_level_given_back_is_undone.Goals as goal
-
-pub returns-clause-runs : goal.returns-clause-runs
-returns-clause-runs c = runs-due
-
-pub returns-clause-undone : goal.returns-clause-undone
-returns-clause-undone c = given-back-is-undone
