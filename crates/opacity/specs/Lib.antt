@@ -1,6 +1,7 @@
 pub mod Runs
 pub mod Effects
 pub mod Alone
+pub mod Known
 pub mod Words
 pub mod Plain
 pub mod Facts

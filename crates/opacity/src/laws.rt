@@ -1,14 +1,15 @@
 //! The laws of what is safe. Each function does nothing: its clauses are theorems, over all laws of heaps, worlds and callers.
-ghost use Rattle.std.specs.Prelude.{◌≡◌, ◌≢◌, ◌⊎◌, ◌++◌, ◌∷◌, ◌-◌, ◌<◌, ◌≤◌, [], ℕ, IfSome, IsTrue, List, Some, length};
+ghost use Rattle.std.specs.Prelude.{◌≡◌, ◌≢◌, ◌⊎◌, ◌++◌, ◌∷◌, ◌-◌, ◌<◌, ◌≤◌, [], ℕ, IfSome, IsTrue, List, Some, length, take};
 ghost use Rattle.meta_word.specs.declared.status.Phase.TheVariants.{Doomed};
 ghost use Rattle.opacity.specs.Alone.{IsLone, IsUndisturbed, LeavesAlone};
-ghost use Rattle.opacity.specs.Effects.{IsToDoom, WinsClock, caller_of, learn};
+ghost use Rattle.opacity.specs.Effects.{IsToDoom, WinsClock, caller_of, learn, moved_by};
+ghost use Rattle.opacity.specs.Known.{IsKnown};
 ghost use Rattle.opacity.specs.Runs.{MeetAllOwed};
 ghost use Rattle.std.specs.List.{All};
 ghost use Rattle.stm_model.specs.Attempt.{Announce, Prepare, cause_at};
 ghost use Rattle.stm_model.specs.Heap.{writes_to};
 ghost use Rattle.stm_model.specs.History.{IsLegal, entry_after};
-ghost use Rattle.stm_model.specs.Moves.{AwaitsAskAt};
+ghost use Rattle.stm_model.specs.Moves.{AwaitsAskAt, Move};
 ghost use Rattle.stm_model.specs.Safe.{HasBegun, IsKept, IsShown, KeepsLaw, Opaque, Safe, TermsFit};
 ghost use Rattle.stm_model.specs.World.{Event, IsCaller, MayHappen, MayRun, MeetsOwed, Terms, World, attempt_of, cells_in, entry_of, happened, opened, run};
 ghost use Rattle.stm_model.specs.declared.cause.Cause.{Cause};
@@ -109,4 +110,18 @@ pub fn an_only_caller_is_undisturbed<L: Law>()
 pub fn a_caller_may_learn_more<L: Law>()
     ensures { (law : L) (terms : Terms) (w : World) (p n : ℕ) → p ≤ terms.callers → (w.view p).seen ≤ n → n ≤ length w.history →
         Safe (L.lawful law) (L.may law) terms w → Safe (L.lawful law) (L.may law) terms (learn w p n) }
+{}
+
+/// What a caller knows stays within what it has seen: at the opening, over each event that may happen, its
+/// own or another's, over its local moves, and where it learns of more. What its attempt has read is then one
+/// heap of what it has seen.
+pub fn what_is_known_was_seen<L: Law>()
+    ensures opens { (terms : Terms) (settings : Settings) (p : ℕ) → IsKnown ((opened terms settings).view p) }
+    ensures event { (law : L) (terms : Terms) (w : World) (event : Event) (p : ℕ) → MayHappen terms w event →
+        Safe (L.lawful law) (L.may law) terms w → IsKnown (w.view p) → IsKnown ((happened w event).view p) }
+    ensures moves { (w : World) (p q : ℕ) (moves : List Move) → IsKnown (w.view p) → IsKnown (w.view q) → IsKnown ((moved_by w p moves).view q) }
+    ensures learns { (w : World) (p q n : ℕ) → (w.view p).seen ≤ n → IsKnown (w.view p) → IsKnown (w.view q) → IsKnown ((learn w p n).view q) }
+    ensures opaque { (law : L) (terms : Terms) (w : World) (p : ℕ) → Safe (L.lawful law) (L.may law) terms w → IsCaller terms p → IsKnown (w.view p) →
+        HasBegun (attempt_of w p).stage → IsKept (attempt_of w p).stage (attempt_of w p).ending →
+        Opaque terms.opening (take (w.view p).seen w.history) (w.view p).since (attempt_of w p) }
 {}
