@@ -1,11 +1,11 @@
--- An attempt that runs while no other caller has one in flight.
+-- Attempts in flight: none at all, or one caller's alone.
 use Rattle.std.specs.Prelude.{◌≡◌, ◌≢◌, ℕ, IfSome, Option, Some}
 use Rattle.stm_model.specs.declared.cause.Cause.{Cause}
 use Rattle.stm_model.specs.declared.cause.Cause.TheVariants.{ClockMoved, Doomed, Moved, ReadConflict, Stale, WriteConflict}
 use Rattle.stm_model.specs.declared.ending.Ending.{Ending}
 use Rattle.stm_model.specs.declared.ending.Ending.TheVariants.{Rolled}
 use Rattle.stm_model.specs.Attempt.{Attempt, Ended, cause_at}
-use Rattle.stm_model.specs.World.{Event, Looks, World, attempt_of}
+use Rattle.stm_model.specs.World.{Event, IsCaller, Looks, Terms, World, attempt_of}
 use Rattle.opacity.specs.Effects.{caller_of}
 
 -- The causes that don't come from another caller.
@@ -31,6 +31,10 @@ pub record IsUndisturbed (t : Attempt) : Type 0 where
 -- No other caller has an attempt in flight.
 abbrev pub IsLone : World → ℕ → Type 0
 IsLone w p = (q : ℕ) → q ≢ p → (attempt_of w q).stage ≡ Ended
+
+-- No caller has an attempt in flight.
+abbrev pub IsAtRest : Terms → World → Type 0
+IsAtRest terms w = (p : ℕ) → IsCaller terms p → (attempt_of w p).stage ≡ Ended
 
 -- The event is this caller's, or a look at the clock.
 unfoldable pub LeavesAlone : ℕ → Event → Type 0

@@ -6,7 +6,7 @@ use Rattle.stm_model.specs.Attempt.{Attempt, is_in_flight}
 use Rattle.stm_model.specs.Heap.{AreWords}
 use Rattle.stm_model.specs.History.{Entry}
 use Rattle.stm_model.specs.Safe.{Safe}
-use Rattle.stm_model.specs.World.{Terms, View, World, attempt_of, entry_of, world_of}
+use Rattle.stm_model.specs.World.{Terms, View, World, attempt_of, entry_of, view_after, world_of}
 use Rattle.stm_model.specs.declared.access.Access.{Access}
 use Rattle.stm_model.specs.declared.access.Access.TheVariants.{Exchange}
 use Rattle.stm_model.specs.declared.access.Word.TheVariants.{Clock}
@@ -60,10 +60,11 @@ pub record HasRoom (spare : Committed) (entries room reads writes : ℕ) : Type 
   pub written : writes ≤ vec_capacity spare.writes
   pub entry : entries < room
 
--- What an attempt's access makes of a table that shows a safe world: it goes to a word of the table and leads the attempt by the word that it finds there, no other view changes, the caller has seen no less of the history, and the table afterwards shows the world after the step, which is safe. The history stays, or the access has won the exchange of the clock and the attempt's entry comes last.
+-- What an attempt's access makes of a table that shows a safe world: it goes to a word of the table, the caller's view is the one after the step and no other changes, the attempt is led by the word that is found there, the caller has seen no less of the history, and the table afterwards shows the world after the step, which is safe. The history stays, or the access has won the exchange of the clock and the attempt's entry comes last.
 pub record IsTableStep (lawful : List ℕ → Type 0) (may : List ℕ → List ℕ → Type 0) (terms : Terms) (words : List ℕ) (history : List Entry) (view : ℕ → View) (p : ℕ) (act : Act) (after : World) : Type 0 where
   pub word : IsOfTable terms (word_of (access_of act))
   pub fits : FieldsFit act
+  pub own : after.view p ≡ view_after (world_of terms words history view) (view p) act
   pub attempt : attempt_of after p ≡ after_word (view p).attempt (word_found terms words (access_of act))
   pub others : (q : ℕ) → q ≢ p → after.view q ≡ view q
   pub seen : (view p).seen ≤ (after.view p).seen

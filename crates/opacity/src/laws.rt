@@ -1,7 +1,7 @@
 //! The laws of what is safe. Each function does nothing: its clauses are theorems, over all laws of heaps, worlds and callers.
 ghost use Rattle.std.specs.Prelude.{◌≡◌, ◌≢◌, ◌⊎◌, ◌++◌, ◌∷◌, ◌-◌, ◌<◌, ◌≤◌, [], ℕ, IfSome, IsTrue, List, Some, length, take};
 ghost use Rattle.meta_word.specs.declared.status.Phase.TheVariants.{Doomed};
-ghost use Rattle.opacity.specs.Alone.{IsLone, IsUndisturbed, LeavesAlone};
+ghost use Rattle.opacity.specs.Alone.{IsAtRest, IsLone, IsUndisturbed, LeavesAlone};
 ghost use Rattle.opacity.specs.Effects.{IsToDoom, WinsClock, caller_of, learn, moved_by};
 ghost use Rattle.opacity.specs.Known.{IsKnown};
 ghost use Rattle.opacity.specs.Runs.{MeetAllOwed};
@@ -9,8 +9,8 @@ ghost use Rattle.std.specs.List.{All};
 ghost use Rattle.stm_model.specs.Attempt.{Announce, Prepare, cause_at};
 ghost use Rattle.stm_model.specs.Heap.{writes_to};
 ghost use Rattle.stm_model.specs.History.{IsLegal, entry_after};
-ghost use Rattle.stm_model.specs.Moves.{AwaitsAskAt, Move};
-ghost use Rattle.stm_model.specs.Safe.{HasBegun, IsKept, IsShown, KeepsLaw, Opaque, Safe, TermsFit};
+ghost use Rattle.stm_model.specs.Moves.{AwaitsAskAt, MayAll, Move};
+ghost use Rattle.stm_model.specs.Safe.{HasBegun, HoldsNewest, IsKept, IsShown, KeepsLaw, Opaque, Safe, TermsFit};
 ghost use Rattle.stm_model.specs.World.{Event, IsCaller, MayHappen, MayRun, MeetsOwed, Terms, World, attempt_of, cells_in, entry_of, happened, opened, run};
 ghost use Rattle.stm_model.specs.declared.cause.Cause.{Cause};
 ghost use Rattle.stm_model.specs.declared.ending.Ending.TheVariants.{Committed, Rolled};
@@ -30,6 +30,13 @@ pub fn each_event_keeps_the_world_safe<L: Law>()
     ensures { (law : L) (terms : Terms) (w : World) (event : Event) → MayHappen terms w event →
         MeetsOwed (L.lawful law) (L.may law) terms w event →
         Safe (L.lawful law) (L.may law) terms w → Safe (L.lawful law) (L.may law) terms (happened w event) }
+{}
+
+/// Local moves of a caller's attempt, one after another, keep the world safe.
+pub fn local_moves_keep_the_world_safe<L: Law>()
+    ensures { (law : L) (terms : Terms) (w : World) (p : ℕ) (moves : List Move) → IsCaller terms p →
+        MayAll (cells_in terms) terms.limit (attempt_of w p) moves →
+        Safe (L.lawful law) (L.may law) terms w → Safe (L.lawful law) (L.may law) terms (moved_by w p moves) }
 {}
 
 /// In a safe world the history is legal, each of its heaps is lawful and may follow the one before, and
@@ -63,6 +70,15 @@ pub fn what_is_written_is_owned<L: Law>()
     ensures { (law : L) (terms : Terms) (w : World) (p cell : ℕ) → Safe (L.lawful law) (L.may law) terms w → IsCaller terms p →
         AwaitsAskAt (attempt_of w p).stage ⊎ ((attempt_of w p).stage ≡ Prepare) → cell < cells_in terms →
         IsTrue (writes_to (attempt_of w p).now.writes cell) → (w.meta cell).owner ≡ p }
+{}
+
+/// Where nobody has an attempt in flight, each cell of a safe world holds what the whole history has left
+/// there, and nobody owns it.
+pub fn a_world_at_rest_holds_the_last_heap<L: Law>()
+    ensures newest { (law : L) (terms : Terms) (w : World) (cell : ℕ) → Safe (L.lawful law) (L.may law) terms w → IsAtRest terms w →
+        cell < cells_in terms → HoldsNewest terms w cell }
+    ensures free { (law : L) (terms : Terms) (w : World) (cell : ℕ) → Safe (L.lawful law) (L.may law) terms w → IsAtRest terms w →
+        cell < cells_in terms → (w.meta cell).owner ≡ 0 }
 {}
 
 /// An event changes the view of its caller alone. It leaves the history as it is, or it is the exchange of

@@ -66,7 +66,7 @@ fn made(access: Access, found: u64) -> u64
 }
 
 /// The words of a table of these values, before any access.
-fn opening_words(alloc: Global, callers: u16, opening: &[u64]) -> Result<Vec<u64>, Memory>
+pub fn opening_words(alloc: Global, callers: u16, opening: &[u64]) -> Result<Vec<u64>, Memory>
     requires { length opening.now < 2 ^ 32 }
     ensures { IfOk result (λ words. OpensTo opening.now callers (length opening.now) words.items) }
 {
