@@ -1,7 +1,7 @@
 //! The laws of what is safe. Each function does nothing: its clauses are theorems, over all laws of heaps, worlds and callers.
 ghost use Rattle.std.specs.Prelude.{◌≡◌, ◌≢◌, ◌⊎◌, ◌++◌, ◌∷◌, ◌-◌, ◌<◌, ◌≤◌, [], ℕ, IfSome, IsTrue, List, Some, length, take};
 ghost use Rattle.meta_word.specs.declared.status.Phase.TheVariants.{Doomed};
-ghost use Rattle.opacity.specs.Alone.{IsAtRest, IsLone, IsUndisturbed, LeavesAlone};
+ghost use Rattle.opacity.specs.Alone.{IsAlone, IsAtRest, IsLone, IsUndisturbed, LeavesAlone};
 ghost use Rattle.opacity.specs.Effects.{IsToDoom, WinsClock, caller_of, learn, moved_by};
 ghost use Rattle.opacity.specs.Known.{IsKnown};
 ghost use Rattle.opacity.specs.Runs.{MeetAllOwed};
@@ -120,6 +120,22 @@ pub fn an_only_caller_is_undisturbed<L: Law>()
         L.lawful law terms.opening → terms.callers ≡ 1 → MayRun terms (opened terms settings) events →
         MeetAllOwed (L.lawful law) (L.may law) terms (opened terms settings) events →
         IsUndisturbed (attempt_of (run (opened terms settings) events) 1) }
+{}
+
+/// The same by one event, from any safe world. An attempt is alone where a world opens, and where it begins
+/// while no other caller has one in flight. It stays so, and undisturbed, over each event of its own caller
+/// and each look at the clock, over its local moves and where anyone learns of more. Of an only caller there
+/// are no other events.
+pub fn an_event_leaves_an_attempt_alone<L: Law>()
+    ensures opens { (terms : Terms) (settings : Settings) (p : ℕ) → IsAlone (opened terms settings) p }
+    ensures begins { (law : L) (terms : Terms) (w : World) (p : ℕ) → IsCaller terms p → Safe (L.lawful law) (L.may law) terms w →
+        (attempt_of w p).stage ≡ Announce → IsLone w p → IsAlone w p }
+    ensures event { (law : L) (terms : Terms) (w : World) (p : ℕ) (event : Event) → IsCaller terms p → Safe (L.lawful law) (L.may law) terms w →
+        MayHappen terms w event → LeavesAlone p event → IsAlone w p → IsAlone (happened w event) p }
+    ensures moves { (terms : Terms) (w : World) (p : ℕ) (moves : List Move) → MayAll (cells_in terms) terms.limit (attempt_of w p) moves →
+        IsAlone w p → IsAlone (moved_by w p moves) p }
+    ensures learns { (w : World) (p q n : ℕ) → IsAlone w p → IsAlone (learn w q n) p }
+    ensures only { (terms : Terms) (w : World) (event : Event) → terms.callers ≡ 1 → MayHappen terms w event → LeavesAlone 1 event }
 {}
 
 /// A caller may learn of more of the history than it has seen, without an access.
