@@ -1,5 +1,5 @@
 -- What a caller knows stays within what it has seen.
-use Rattle.std.proofs.Common.{◌≡◌, ℕ, zero, suc, ◌≤◌, Bool, true, false, not, ◌&&◌, nat_eq, nat_lt, if◌then◌else◌, List, [], ◌∷◌, length, drop, Option, Some, None, refl, sym, subst, ap, arith}
+use Rattle.std.proofs.Common.{◌≡◌, ℕ, zero, suc, ◌≤◌, Bool, true, false, not, ◌&&◌, nat_eq, nat_lt, if◌then◌else◌, List, [], ◌∷◌, length, drop, Option, Some, None, refl, subst, arith}
 use Rattle.meta_word.specs.Meta.{still_has, changing_by_another, owned_by_another, same_but_pending, same_meta}
 use Rattle.meta_word.specs.Status.{same_status}
 use Rattle.meta_word.specs.Policy.{dooms, looks}
@@ -7,19 +7,19 @@ use Rattle.meta_word.specs.declared.meta.Meta.{Meta}
 use Rattle.stm_model.specs.declared.access.Ask.{Ask}
 use Rattle.stm_model.specs.declared.access.Ask.TheVariants.{Get, Set, Enter, Keep, Undo, Hook, Later, Finish, Abandon}
 use Rattle.stm_model.specs.declared.cause.Cause.{Cause}
-use Rattle.stm_model.specs.declared.cause.Cause.TheVariants.{ClockEnd, ClockMoved, Doomed, Memory, Stale, TooDeep}
+use Rattle.stm_model.specs.declared.cause.Cause.TheVariants.{ClockEnd, ClockMoved, Doomed, TooDeep}
 use Rattle.stm_model.specs.declared.ending.Ending.TheVariants.{Committed, Rolled}
 use Rattle.stm_model.specs.declared.note.Note.{Note}
-use Rattle.stm_model.specs.Accesses.{Act, active, Answer, LoadClock, Number, OfMeta, OfStatus, ExchangeClock, next_at, next}
+use Rattle.stm_model.specs.Accesses.{Act, active, LoadClock, ExchangeClock, next_at}
 use Rattle.stm_model.specs.After.{at, done, is_active, ring_if, run_all, meta_acquired, acquiring, after_at, validate_on, decided, extend_on, extended, release_level_on, read_again, meta_read, validated, mark_on, note_of, owner_status_loaded, owner_validated, exchanged, prepared, release_on, roll_on, rolled, note_validated, store_on, acquire_again, stale, stopped}
-use Rattle.stm_model.specs.Attempt.{Attempt, Due, Run, Ring, Stage, Write, Announce, Begin, Ready, Late, Stopped, ReadMeta, ExtendClock, ExtendNote, ReadValue, Validate, AcquireMeta, Acquire, OwnerStatus, OwnerMeta, DoomOwner, ReleaseLevel, Prepare, Mark, CommitClock, CommitNote, Decide, StoreValues, Release, RollBack, Close, Ended}
+use Rattle.stm_model.specs.Attempt.{Attempt, Due, Run, Ring, Stage, Write, Announce, Begin, Ready, Late, Stopped, ReadMeta, ExtendClock, ExtendNote, ReadValue, Validate, AcquireMeta, Acquire, OwnerStatus, OwnerMeta, DoomOwner, ReleaseLevel, Prepare, Mark, CommitClock, CommitNote, Decide, StoreValues, Release, RollBack, Close}
 use Rattle.stm_model.specs.CellsState.{Book}
 use Rattle.meta_word.specs.declared.status.Phase.TheVariants.{Preparing}
 use Rattle.stm_model.specs.Handlers.{committing, preparing}
 use Rattle.stm_model.specs.Heap.{put, writes_to}
 use Rattle.stm_model.specs.Refusing.{deepest}
 use Rattle.std.specs.Map.{lookup}
-use Rattle.stm_model.specs.Moves.{Begins, Does, EndsLate, Forgets, OutOfMemory, Move, Takes, asked_at, asked_going, asked_stopped, conclude, did_first, go_on, late_over_at, moved, moved_on, read_buffered, read_noted, turn_to, undo_level}
+use Rattle.stm_model.specs.Moves.{Begins, Does, EndsLate, Forgets, OutOfMemory, Move, Takes, asked_at, asked_going, asked_stopped, conclude, did_first, late_over_at, moved, moved_on, read_buffered, read_noted, turn_to, undo_level}
 use Rattle.stm_model.specs.World.{View, World, found, seen_after}
 use Rattle.opacity.specs.Known.{IsKnown, clock_at}
 use Rattle.opacity.proofs.ReadSteps.{same_number}

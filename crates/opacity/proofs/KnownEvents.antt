@@ -3,7 +3,7 @@ use Rattle.std.proofs.Common.{◌≡◌, ℕ, ◌≤◌, Option, Some, None, Lis
 use Rattle.std.proofs.lemmas.Bool.{cases_eq}
 use Rattle.std.proofs.lemmas.List.{length-take-le, take-append-drop}
 use Rattle.stm_model.specs.Accesses.{Act, next, next_at, unless_due}
-use Rattle.stm_model.specs.Attempt.{Attempt, Due, Stage}
+use Rattle.stm_model.specs.Attempt.{Due, Stage}
 use Rattle.stm_model.specs.Heap.{Agrees}
 use Rattle.stm_model.specs.History.{Entry, state}
 use Rattle.stm_model.specs.Moves.{Move, moved_on}

@@ -12,7 +12,7 @@ use Rattle.stm_model.specs.Moves.{May, MayAll, Move, moved, moved_on}
 use Rattle.stm_model.specs.Attempt.{Announce, Attempt, Due, Ended, Stage, cause_at}
 use Rattle.meta_word.specs.declared.meta.Meta.{Meta}
 use Rattle.stm_model.specs.Safe.{EndingAt, PhaseAt, Safe}
-use Rattle.stm_model.specs.World.{cells_in, clock_after, found, move, seen_after, since_at, with_view, Event, IsCaller, Looks, MayHappen, MayRun, Moves, Steps, Terms, View, Waits, World, attempt_of, happened, look, opened, run, step, words_after}
+use Rattle.stm_model.specs.World.{cells_in, clock_after, found, move, seen_after, since_at, with_view, Event, IsCaller, Looks, MayHappen, MayRun, Moves, Steps, Terms, View, Waits, World, attempt_of, happened, opened, run, step, words_after}
 use Rattle.opacity.specs.Alone.{AloneAt, EndsByItself, GoesAlone, IsAlone, IsLone, IsOwn, IsUndisturbed, LeavesAlone}
 use Rattle.opacity.specs.Effects.{learn, moved_by}
 use Rattle.opacity.specs.Runs.{MeetAllOwed}

@@ -10,12 +10,12 @@ use Rattle.stm_model.specs.declared.cause.Cause.TheVariants.{ClockEnd, Full, Mem
 use Rattle.stm_model.specs.declared.ending.Ending.TheVariants.{Rolled}
 use Rattle.stm_model.specs.declared.note.Note.{Note}
 use Rattle.stm_model.specs.After.{at, validate_on, done, release_level_on, mark_on, note_of, release_on, roll_on, rolled, stopped, store_on}
-use Rattle.stm_model.specs.Attempt.{Announce, Begin, Ready, Late, Stopped, ReadMeta, ExtendClock, ExtendNote, ReadValue, Validate, AcquireMeta, Acquire, OwnerStatus, OwnerMeta, DoomOwner, ReleaseLevel, Prepare, Mark, CommitClock, CommitNote, Decide, StoreValues, Release, RollBack, Close, Ended, Attempt, Due, Ring, Run, Stage, Write, cause_at}
+use Rattle.stm_model.specs.Attempt.{Ready, Late, Stopped, ReadMeta, AcquireMeta, ReleaseLevel, Prepare, Mark, CommitClock, CommitNote, Decide, StoreValues, Release, RollBack, Close, Attempt, Due, Ring, Run, Stage, Write, cause_at}
 use Rattle.stm_model.specs.CellsState.{Book, outer}
 use Rattle.stm_model.specs.Heap.{put, writes_to}
 use Rattle.stm_model.specs.Moves.{AwaitsAskAt, Begins, Does, EndsLate, Forgets, OutOfMemory, May, MayAbandon, MayAll, MayAsk, Move, Takes, asked_at, asked_going, asked_stopped, conclude, did_first, enter_level, go_on, late_over_at, moved, moved_on, read_buffered, read_noted, turn_to, undo_level, write_cell}
 use Rattle.stm_model.specs.Refusing.{IsOfBody, deepest}
-use Rattle.opacity.specs.Alone.{AloneAt, EndsByItself, GoesAlone, IsOwn, IsUndisturbed}
+use Rattle.opacity.specs.Alone.{AloneAt, EndsByItself, GoesAlone, IsOwn}
 
 some_own : (found : Option Cause) (cause : Cause) → found ≡ Some cause → IfSome found IsOwn → IsOwn cause
 some_own found cause is shown = subst (λ (o : Option Cause). IfSome o IsOwn) is shown

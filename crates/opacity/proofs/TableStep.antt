@@ -1,13 +1,13 @@
 -- An access of an attempt as a step of a table, all at once.
-use Rattle.std.proofs.Common.{◌≡◌, ◌≢◌, ◌⊎◌, ℕ, suc, ◌≤◌, Bool, true, false, nat_eq, if◌then◌else◌, List, [], ◌∷◌, ◌++◌, length, get_or, Option, Some, refl, sym, ap, ◌∙◌, arith, inl, inr}
-use Rattle.stm_model.specs.Accesses.{Act, LoadClock, ExchangeClock, access_of, next}
+use Rattle.std.proofs.Common.{◌≡◌, ◌⊎◌, ℕ, ◌≤◌, List, [], ◌∷◌, ◌++◌, get_or, Some, sym, ap, ◌∙◌, arith}
+use Rattle.stm_model.specs.Accesses.{Act, ExchangeClock, access_of, next}
 use Rattle.stm_model.specs.After.{after, after_found, after_word}
 use Rattle.stm_model.specs.History.{Entry}
 use Rattle.stm_model.specs.Safe.{Safe}
-use Rattle.stm_model.specs.World.{IsCaller, MayHappen, MeetsOwed, Steps, Terms, View, World, attempt_of, entry_of, found, happened, replaced, seen_after, step, step_by, view_after, with_view, words_after, world_of}
+use Rattle.stm_model.specs.World.{IsCaller, MayHappen, MeetsOwed, Steps, Terms, View, World, attempt_of, entry_of, happened, step, step_by, view_after, words_after, world_of}
 use Rattle.opacity.specs.Plain.{IsTableStep}
-use Rattle.opacity.specs.Words.{BringsWords, IsTable, table_after, word_found}
-use Rattle.opacity.proofs.Effects.{others_views, words_view}
+use Rattle.opacity.specs.Words.{BringsWords, IsTable, word_found}
+use Rattle.opacity.proofs.Effects.{others_views}
 use Rattle.opacity.proofs.Knowing.{seen_more}
 use Rattle.opacity.proofs.NextAccess.{fits_next}
 use Rattle.opacity.proofs.Places.{replaced_here}

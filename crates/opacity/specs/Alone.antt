@@ -1,5 +1,5 @@
 -- Attempts in flight: none at all, or one caller's alone.
-use Rattle.std.specs.Prelude.{◌≡◌, ◌≢◌, ℕ, IfSome, List, length, Option, Some}
+use Rattle.std.specs.Prelude.{◌≡◌, ◌≢◌, ℕ, IfSome, length, Option, Some}
 use Rattle.meta_word.specs.declared.meta.Meta.{Meta}
 use Rattle.meta_word.specs.declared.status.Phase.TheVariants as phase
 use Rattle.stm_model.specs.declared.cause.Cause.{Cause}

@@ -4,4 +4,5 @@ pub mod Alone
 pub mod Known
 pub mod Words
 pub mod Plain
+pub mod World
 pub mod Facts

@@ -116,6 +116,8 @@ fn written<W: Notes>(room: Vec<(u32, u64)>, writes: &W) -> Result<Vec<(u32, u64)
 }
 
 impl<L: Law + Drop> World<L> {
+    ghost use Rattle.opacity.specs.World.{KeepsHistory, KeepsTerms, kept_terms};
+
     /// The world as it opens over a heap that may be committed.
     pub fn new(
         alloc: Global,
@@ -154,7 +156,7 @@ impl<L: Law + Drop> World<L> {
 
     #[tactic(auto, unfolding(crate::specs::Words::IsOfTable, stm_model::specs::World::place_of))]
     fn place(&self, word: Word) -> usize
-        requires { IsOfTable (terms_of self.now.opening.items self.now.callers self.now.limit) word }
+        requires { IsOfTable (kept_terms self.now) word }
         ensures place { result ≡ place_of self.now.callers word }
         ensures within { result < length self.now.words.items }
     {
@@ -169,7 +171,7 @@ impl<L: Law + Drop> World<L> {
 
     /// A word as it stands.
     pub fn word(&self, word: Word) -> u64
-        requires { IsOfTable (terms_of self.now.opening.items self.now.callers self.now.limit) word }
+        requires { IsOfTable (kept_terms self.now) word }
         ensures { result ≡ slice_index self.now.words.items (place_of self.now.callers word) }
     {
         self.words[self.place(word)]
@@ -184,16 +186,11 @@ impl<L: Law + Drop> World<L> {
 
     /// Makes an access to a word of the table, and gives the word that it found.
     fn access(&mut self, access: Access) -> u64
-        requires { IsOfTable (terms_of self.old.opening.items self.old.callers self.old.limit) (word_of access) }
+        requires { IsOfTable (kept_terms self.old) (word_of access) }
         ensures brings { BringsWords access }
         ensures found { result ≡ slice_index self.old.words.items (place_of self.old.callers (word_of access)) }
-        ensures words { self.new.words.items ≡ table_after (terms_of self.old.opening.items self.old.callers self.old.limit) self.old.words.items access }
-        ensures history { self.new.history ≡ self.old.history }
-        ensures spare { self.new.spare ≡ self.old.spare }
-        ensures law { self.new.law ≡ self.old.law }
-        ensures opening { self.new.opening ≡ self.old.opening }
-        ensures callers { self.new.callers ≡ self.old.callers }
-        ensures limit { self.new.limit ≡ self.old.limit }
+        ensures words { self.new.words.items ≡ table_after (kept_terms self.old) self.old.words.items access }
+        ensures keeps { KeepsHistory self.old self.new }
     {
         let place = self.place(access.word());
         let found = self.words[place];
@@ -205,27 +202,22 @@ impl<L: Law + Drop> World<L> {
     /// words show afterwards, with the history and the views after the step, is the world after it, and safe.
     /// A caller that has none in flight may look at the clock, or wait for a cell.
     pub fn act<V: Shown>(&mut self, caller: u16, access: Access, attempts: &[V]) -> u64
-        requires caller { IsCaller (terms_of self.old.opening.items self.old.callers self.old.limit) caller }
-        requires word { IsOfTable (terms_of self.old.opening.items self.old.callers self.old.limit) (word_of access) }
+        requires caller { IsCaller (kept_terms self.old) caller }
+        requires word { IsOfTable (kept_terms self.old) (word_of access) }
         requires undecided { IsUndecided access }
-        ensures found { result ≡ word_found (terms_of self.old.opening.items self.old.callers self.old.limit) self.old.words.items access }
-        ensures words { self.new.words.items ≡ table_after (terms_of self.old.opening.items self.old.callers self.old.limit) self.old.words.items access }
-        ensures history { self.new.history ≡ self.old.history }
-        ensures spare { self.new.spare ≡ self.old.spare }
-        ensures law { self.new.law ≡ self.old.law }
-        ensures opening { self.new.opening ≡ self.old.opening }
-        ensures callers { self.new.callers ≡ self.old.callers }
-        ensures limit { self.new.limit ≡ self.old.limit }
+        ensures found { result ≡ word_found (kept_terms self.old) self.old.words.items access }
+        ensures words { self.new.words.items ≡ table_after (kept_terms self.old) self.old.words.items access }
+        ensures keeps { KeepsHistory self.old self.new }
         ensures step { (history : List Entry) (view : ℕ → View) → AreAttempts V.shows self.old.callers attempts.now view →
-            (let terms = terms_of self.old.opening.items self.old.callers self.old.limit in let w = world_of terms self.old.words.items history view in
+            (let terms = kept_terms self.old in let w = world_of terms self.old.words.items history view in
             Safe (L.lawful self.old.law) (L.may self.old.law) terms w → next_access (view caller).attempt ≡ Some access →
             ShowsSafe (L.lawful self.old.law) (L.may self.old.law) terms self.new.words.items history (step w caller)) }
         ensures look { (history : List Entry) (view : ℕ → View) → AreAttempts V.shows self.old.callers attempts.now view →
-            (let terms = terms_of self.old.opening.items self.old.callers self.old.limit in let w = world_of terms self.old.words.items history view in
+            (let terms = kept_terms self.old in let w = world_of terms self.old.words.items history view in
             Safe (L.lawful self.old.law) (L.may self.old.law) terms w → (view caller).attempt.stage ≡ Ended → access ≡ access_of LoadClock →
             ShowsSafe (L.lawful self.old.law) (L.may self.old.law) terms self.new.words.items history (look w caller)) }
         ensures wait { (history : List Entry) (view : ℕ → View) (cell : ℕ) → AreAttempts V.shows self.old.callers attempts.now view →
-            (let terms = terms_of self.old.opening.items self.old.callers self.old.limit in let w = world_of terms self.old.words.items history view in
+            (let terms = kept_terms self.old in let w = world_of terms self.old.words.items history view in
             Safe (L.lawful self.old.law) (L.may self.old.law) terms w → (view caller).attempt.stage ≡ Ended → cell < cells_in terms → access ≡ access_of (SetPending cell) →
             ShowsSafe (L.lawful self.old.law) (L.may self.old.law) terms self.new.words.items history (wait w caller cell)) }
     {
@@ -241,7 +233,7 @@ impl<L: Law + Drop> World<L> {
         reads: &N,
         writes: &W,
     ) -> Result<Committed, Memory>
-        requires { IsCaller (terms_of self.now.opening.items self.now.callers self.now.limit) caller }
+        requires { IsCaller (kept_terms self.now) caller }
         ensures succeeds { length (N.notes reads.now) ≤ vec_capacity spare.reads → length (W.notes writes.now) ≤ vec_capacity spare.writes → IsOk result }
         ensures entry { IfOk result (λ kept. entry_in kept ≡ record { caller = caller; serial = (status_of (slice_index self.now.words.items caller)).serial; reads = N.notes reads.now; writes = writes_in (W.notes writes.now) }) }
     {
@@ -260,10 +252,7 @@ impl<L: Law + Drop> World<L> {
         ensures room { OnOk result (HasRoom self.new.spare (length self.new.history.items) (vec_capacity self.new.history) reads writes) }
         ensures words { self.new.words.items ≡ self.old.words.items }
         ensures history { self.new.history.items ≡ self.old.history.items }
-        ensures law { self.new.law ≡ self.old.law }
-        ensures opening { self.new.opening ≡ self.old.opening }
-        ensures callers { self.new.callers ≡ self.old.callers }
-        ensures limit { self.new.limit ≡ self.old.limit }
+        ensures keeps { KeepsTerms self.old self.new }
     {
         self.spare.reads.clear();
         self.spare.writes.clear();
@@ -285,7 +274,7 @@ impl<L: Law + Drop> World<L> {
         reads: &N,
         writes: &W,
     ) -> Result<u64, Memory>
-        requires caller { IsCaller (terms_of self.old.opening.items self.old.callers self.old.limit) caller }
+        requires caller { IsCaller (kept_terms self.old) caller }
         requires old { old < MAX_VERSION }
         ensures found { IfOk result (λ clock. clock ≡ slice_index self.old.words.items 0) }
         ensures memory { OnErr result ((self.new.words.items ≡ self.old.words.items) × (self.new.history.items ≡ self.old.history.items)) }
@@ -293,12 +282,9 @@ impl<L: Law + Drop> World<L> {
         ensures lost { slice_index self.old.words.items 0 ≢ old → (self.new.words.items ≡ self.old.words.items) × (self.new.history.items ≡ self.old.history.items) }
         ensures won { OnOk result (slice_index self.old.words.items 0 ≡ old → (self.new.words.items ≡ slice_set self.old.words.items 0 (old + 1)) ×
             (history_of self.new.history.items ≡ history_of self.old.history.items ++ record { caller = caller; serial = (status_of (slice_index self.old.words.items caller)).serial; reads = N.notes reads.now; writes = writes_in (W.notes writes.now) } ∷ [])) }
-        ensures law { self.new.law ≡ self.old.law }
-        ensures opening { self.new.opening ≡ self.old.opening }
-        ensures callers { self.new.callers ≡ self.old.callers }
-        ensures limit { self.new.limit ≡ self.old.limit }
+        ensures keeps { KeepsTerms self.old self.new }
         ensures step { OnOk result ((view : ℕ → View) → AreAttempts V.shows self.old.callers attempts.now view →
-            (let terms = terms_of self.old.opening.items self.old.callers self.old.limit in let w = world_of terms self.old.words.items (history_of self.old.history.items) view in
+            (let terms = kept_terms self.old in let w = world_of terms self.old.words.items (history_of self.old.history.items) view in
             let t = (view caller).attempt in
             Safe (L.lawful self.old.law) (L.may self.old.law) terms w → next t ≡ Some (ExchangeClock old) → N.notes reads.now ≡ t.notes → writes_in (W.notes writes.now) ≡ t.now.writes →
             MeetsOwed (L.lawful self.old.law) (L.may self.old.law) terms w (Steps caller) →
