@@ -1,7 +1,6 @@
 -- A cell of which nothing has changed, and how its owner holds it, stays safe.
-use Rattle.std.proofs.Common.{◌≡◌, ℕ, ◌-◌, ◌<◌, ◌≤◌, ◌⊎◌, ◌≢◌, Bool, true, false, nat_eq, if◌then◌else◌, length, refl, sym, ap, ◌∙◌, arith, inl, inr, slice_index}
-use Rattle.std.proofs.lemmas.Bool.{cases_eq}
-use Rattle.std.proofs.lemmas.Bool.Decides.{nat_tests}
+use Rattle.std.proofs.Common.{◌≡◌, ℕ, ◌-◌, ◌<◌, ◌≤◌, ◌⊎◌, ◌≢◌, Bool, true, false, if◌then◌else◌, length, refl, sym, ap, ◌∙◌, arith, inl, inr, slice_index}
+use Rattle.std.proofs.lemmas.Bool.{cases_eq, eq-eqb}
 use Rattle.meta_word.specs.declared.meta.Meta.{Meta}
 use Rattle.stm_model.specs.Attempt.{Attempt, holds, marks, stamp_of, unstored_at}
 use Rattle.stm_model.specs.Heap.{writes_to}
@@ -37,7 +36,7 @@ if_below true x y n low high = low
 if_below false x y n low high = high
 
 module _ (terms : Terms) (w v : World) (cell : ℕ) (same : SameCell terms w v cell) where
-  pub stamp_kept : stamp_on v cell ≡ stamp_on w cell
+  stamp_kept : stamp_on v cell ≡ stamp_on w cell
   stamp_kept = rw same.meta same.stamp
 
   value_kept : Continues terms w v → (n : ℕ) → n ≤ length w.history → value_then terms v n cell ≡ value_then terms w n cell
@@ -99,9 +98,6 @@ onward_of terms w v goes each = record {
       | inr on ↦ on
     ]
 
-owner_test : (owner p : ℕ) → owner ≡ p → nat_eq p owner ≡ true
-owner_test owner p same = grind (arith, nat_tests)
-
 -- Where one caller's attempt alone changes, and holds the cell alike, and the cell's words stay, nothing about the cell changes.
 module _ (terms : Terms) (w v : World) (p cell : ℕ) (safe : SafeCell terms w cell) (above : 0 < p)
     (others : (q : ℕ) → q ≢ p → attempt_of v q ≡ attempt_of w q) (alike : AlikeAt cell (attempt_of v p) (attempt_of w p)) where
@@ -109,7 +105,7 @@ module _ (terms : Terms) (w v : World) (p cell : ℕ) (safe : SafeCell terms w c
       → P (attempt_of v (w.meta cell).owner) (attempt_of w (w.meta cell).owner)
   at_owner P same own = elim (cases_eq (w.meta cell).owner p) [
     | inl is ↦
-        let holder : holds (attempt_of w p) cell ≡ true = safe.owner p above ∙ owner_test (w.meta cell).owner p is in
+        let holder : holds (attempt_of w p) cell ≡ true = safe.owner p above ∙ eq-eqb p (w.meta cell).owner (sym is) in
         rw is (own holder)
     | inr other ↦ rw (others (w.meta cell).owner other) (same (attempt_of w (w.meta cell).owner))
   ]

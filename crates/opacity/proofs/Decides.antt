@@ -1,8 +1,7 @@
 -- The exchange of the clock that is won keeps the world safe, and the law of heaps.
-use Rattle.std.proofs.Common.{◌≡◌, ◌≢◌, ℕ, suc, nat_eq, ◌-◌, ◌<◌, ◌≤◌, ◌⊎◌, ◌&&◌, not, true, false, Bool, Some, None, cond, if◌then◌else◌, List, [], ◌∷◌, ◌++◌, length, refl, sym, ap, ◌∙◌, arith, inl, inr, subst, slice_index}
+use Rattle.std.proofs.Common.{◌≡◌, ◌≢◌, ℕ, suc, ◌-◌, ◌<◌, ◌≤◌, ◌⊎◌, ◌&&◌, not, true, false, Bool, Some, None, cond, if◌then◌else◌, List, [], ◌∷◌, ◌++◌, length, refl, sym, ap, ◌∙◌, arith, inl, inr, subst, slice_index}
 use Rattle.std.specs.List.{All}
-use Rattle.std.proofs.lemmas.Bool.{cases_Bool, cases_eq, cases_lt}
-use Rattle.std.proofs.lemmas.Bool.Decides.{nat_tests}
+use Rattle.std.proofs.lemmas.Bool.{cases_Bool, cases_eq, cases_lt, eq-eqb}
 use Rattle.std.proofs.lemmas.List.{length_push}
 use Rattle.meta_word.specs.declared.status.Phase.TheVariants.{Preparing}
 use Rattle.stm_model.specs.declared.ending.Ending.TheVariants.{Committed}
@@ -17,7 +16,7 @@ use Rattle.stm_model.proofs.HeapLemmas.{over_other}
 use Rattle.stm_model.proofs.HistoryLemmas.{IsLegal-push, entry_after-append, entry_after_push, last-append, last_push, state-append, state_push}
 use Rattle.opacity.proofs.Cells.{AlikeAt, MovesOn, SameCell, cell_same, onward_of, same_of}
 use Rattle.opacity.proofs.Ends.{clash}
-use Rattle.opacity.proofs.Fits.{ending_is, phase_is, sound_with, stage_is}
+use Rattle.opacity.proofs.Fits.{ending_is, phase_is, stage_is}
 use Rattle.opacity.proofs.LawLemmas.{KeepsLaw-push}
 use Rattle.opacity.proofs.Onward.{Continues, Onward, attempt_onward}
 use Rattle.opacity.proofs.Places.{attempt_else, attempt_here, replaced_else, replaced_here}
@@ -153,9 +152,6 @@ module _ (lawful : List ℕ → Type 0) (may : List ℕ → List ℕ → Type 0)
         let marked : marks t cell ≡ true = subst (λ (s : Stage). (writes_to (held_at t.now.writes s) cell && not (writes_to (unmarked_at t.phase t.now.writes s) cell)) ≡ true) (sym is) (rw written refl) in
         (safe.cells cell within).changing ∙ rw mine marked
 
-    own_number : nat_eq p p ≡ true
-    own_number = grind (arith, nat_tests)
-
     value_before : (n : ℕ) → n ≡ length w.history → w.value cell ≡ value_then terms after n cell
     value_before n here =
         let settled : HoldsNewest terms w cell = (safe.cells cell within).settled stamp_before in
@@ -175,7 +171,7 @@ module _ (lawful : List ℕ → Type 0) (may : List ℕ → List ℕ → Type 0)
     cell_after : SafeCell terms after cell
     cell_after = record {
       owner = λ q above. elim (cases_eq q p) [
-        | inl same ↦ rw (same, own_after, (stores cell).held, written, mine) (sym own_number)
+        | inl same ↦ rw (same, own_after, (stores cell).held, written, mine) (sym (eq-eqb p p refl))
         | inr other ↦ rw (others_after q other) ((safe.cells cell within).owner q above)
       ];
       changing = rw (mine, own_after, (stores cell).marked, written) marked_before;
@@ -307,7 +303,7 @@ module _ (lawful : List ℕ → Type 0) (may : List ℕ → List ℕ → Type 0)
   unfolding EndingAt EndsSo
   own_safe =
       let lifted : SafeAttempt terms after p t = attempt_onward terms w after on p t (safe.attempts p caller) in
-      let sound : Sound terms after p certain = sound_with terms after p t t.phase t.now.hooks t.now.runs t.now.laters t.turn certain.ending due t.rings t.stage (sound_of terms after p t lifted) in
+      let sound : Sound terms after p certain = sound_of terms after p t lifted in
       let before : suc clock - 1 ≡ length w.history = omega (arith, at_end) in
       store_safe terms after p certain (0, 0) [] t.now.writes sound prepares tt
       (omega arith, omega (arith, grown, at_end), rw before entry_new) ([], refl)

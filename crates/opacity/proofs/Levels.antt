@@ -12,7 +12,7 @@ use Rattle.stm_model.specs.Heap.{put, writes_to}
 use Rattle.stm_model.specs.Safe.{EndingAt, GivesBack, HasBegun, LevelsNest, PhaseAt, SafeAttempt, SafeStage, EndsSo}
 use Rattle.stm_model.specs.World.{Terms, World, cells_in}
 use Rattle.stm_model.proofs.HeapLemmas.{AreWords-put, IsDistinct-put}
-use Rattle.opacity.proofs.Stands.{Sound, placed}
+use Rattle.opacity.proofs.Stands.{Sound, placed, sound_levels, sound_with}
 use Rattle.opacity.proofs.Walks.{distinct_front, keys-put_new, keys-put_written}
 
 -- ---- levels
@@ -37,21 +37,8 @@ module _ (terms : Terms) (w : World) (p : ℕ) (t : Attempt) (sound : Sound term
 
   put_sound : (cell value : ℕ) → value < 2 ^ 64 → All (λ each. each < cells_in terms) (keys_of (put t.now.writes cell value)) → LevelsNest (keys_of (put t.now.writes cell value)) t.saved
       → Sound terms w p (with_write cell value)
-  put_sound cell value word cells levels = record {
-    own = sound.own;
-    serial = sound.serial;
-    limit = sound.limit;
-    prefix = sound.prefix;
-    notes = sound.notes;
-    entry = record {
-      reads_apart = sound.entry.reads_apart;
-      writes_apart = IsDistinct-put t.now.writes cell value sound.entry.writes_apart;
-      words = AreWords-put t.now.writes cell value sound.entry.words word;
-    };
-    noted_cells = sound.noted_cells;
-    written_cells = cells;
-    levels = levels;
-  }
+  put_sound cell value word cells levels =
+      sound_with terms w p t (put t.now.writes cell value) t.saved sound (IsDistinct-put t.now.writes cell value sound.entry.writes_apart) (AreWords-put t.now.writes cell value sound.entry.words word) cells levels
 
   pub put_written : (cell value : ℕ) → value < 2 ^ 64 → writes_to t.now.writes cell ≡ true → Sound terms w p (with_write cell value)
   put_written cell value word written =
@@ -67,7 +54,7 @@ module _ (terms : Terms) (w : World) (p : ℕ) (t : Attempt) (sound : Sound term
 
 -- ---- a level is undone
 
-pub All-front : {X : Type 0} (P : X → Type 0) (front behind : List X) → All P (front ++ behind) → All P front
+All-front : {X : Type 0} (P : X → Type 0) (front behind : List X) → All P (front ++ behind) → All P front
 All-front P front behind all = λ k d within.
     let here : k < length (front ++ behind) = omega (arith, length-append front behind) in
     rw (get_or_append_left front behind d k within) at (all k d here)
@@ -92,39 +79,17 @@ module _ (terms : Terms) (w : World) (p : ℕ) where
   -- the book with which the level began comes back
   returned_sound : (t : Attempt) (saved : List Book) (due : List Due) → Sound terms w p t → LevelsNest (keys_of t.now.writes) saved
       → Sound terms w p (record t { now = returned saved t.now; saved = outer saved; due = due })
-  returned_sound t [] due sound nest = record {
-    own = sound.own;
-    serial = sound.serial;
-    limit = sound.limit;
-    prefix = sound.prefix;
-    notes = sound.notes;
-    entry = sound.entry;
-    noted_cells = sound.noted_cells;
-    written_cells = sound.written_cells;
-    levels = tt;
-  }
-  returned_sound t (former ∷ others) due sound nest = record {
-    own = sound.own;
-    serial = sound.serial;
-    limit = sound.limit;
-    prefix = sound.prefix;
-    notes = sound.notes;
-    entry = record {
-      reads_apart = sound.entry.reads_apart;
-      writes_apart = distinct_front (keys_of former.writes) nest.0.0 (rw nest.0.1 at sound.entry.writes_apart);
-      words = nest.1;
-    };
-    noted_cells = sound.noted_cells;
-    written_cells = All-front (λ cell. cell < cells_in terms) (keys_of former.writes) nest.0.0 (rw nest.0.1 at sound.written_cells);
-    levels = nest.2;
-  }
+  returned_sound t [] due sound nest = sound_levels terms w p t [] sound tt
+  returned_sound t (former ∷ others) due sound nest =
+      sound_with terms w p t former.writes others sound (distinct_front (keys_of former.writes) nest.0.0 (rw nest.0.1 at sound.entry.writes_apart)) nest.1
+      (All-front (λ cell. cell < cells_in terms) (keys_of former.writes) nest.0.0 (rw nest.0.1 at sound.written_cells)) nest.2
 
-  pub given_safe : (t : Attempt) (kept behind : List Write) → Sound terms w p t → GivesBack t kept behind → t.phase ≡ Active → t.ending ≡ None → SafeAttempt terms w p (release_level_on t kept behind)
+  pub level_safe : (t : Attempt) (kept behind : List Write) → Sound terms w p t → GivesBack t kept behind → t.phase ≡ Active → t.ending ≡ None → SafeAttempt terms w p (release_level_on t kept behind)
   unfolding SafeStage PhaseAt EndingAt HasBegun EndsSo
-  given_safe t kept [] sound gives active none =
+  level_safe t kept [] sound gives active none =
       let u = record t { now = returned t.saved t.now; saved = outer t.saved; due = t.due ++ run_all (level_runs t.saved t.now) } in
       placed terms w p u (returned_sound t t.saved u.due sound sound.levels) (rw none tt) (Ready None) tt active none tt
-  given_safe t kept (write ∷ behind) sound gives active none =
+  level_safe t kept (write ∷ behind) sound gives active none =
       placed terms w p t sound (rw none tt) (ReleaseLevel kept write behind) tt active none gives
 
 -- An attempt holds these cells, unmarked, and is undecided.
@@ -141,9 +106,9 @@ and_not false = refl
 returned_writes : (saved : List Book) (now former : Book) (others : List Book) → saved ≡ former ∷ others → (returned saved now).writes ≡ former.writes
 returned_writes saved now former others is = rw is refl
 
-pub given_holds : (t : Attempt) (kept behind : List Write) (cell : ℕ) → GivesBack t kept behind → t.ending ≡ None → HoldsThese (release_level_on t kept behind) kept behind cell
+pub level_holds : (t : Attempt) (kept behind : List Write) (cell : ℕ) → GivesBack t kept behind → t.ending ≡ None → HoldsThese (release_level_on t kept behind) kept behind cell
 unfolding held_at unmarked_at unstored_at
-given_holds t kept [] cell gives none =
+level_holds t kept [] cell gives none =
     let back : (returned t.saved t.now).writes ≡ kept = returned_writes t.saved t.now gives.former gives.others gives.level ∙ sym gives.kept_writes in
     record {
       held = rw append-nil (ap (λ writes. writes_to writes cell) back);
@@ -151,4 +116,4 @@ given_holds t kept [] cell gives none =
       unstored = refl;
       stamp = rw none refl;
     }
-given_holds t kept (write ∷ behind) cell gives none = record { held = refl; unmarked = and_not (writes_to (kept ++ write ∷ behind) cell); unstored = refl; stamp = rw none refl }
+level_holds t kept (write ∷ behind) cell gives none = record { held = refl; unmarked = and_not (writes_to (kept ++ write ∷ behind) cell); unstored = refl; stamp = rw none refl }

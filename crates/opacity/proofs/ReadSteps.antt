@@ -1,7 +1,7 @@
 -- The accesses of a read keep the world safe.
-use Rattle.std.proofs.Common.{◌≡◌, ◌≢◌, ℕ, zero, suc, nat_eq, nat_lt, ◌-◌, ◌<◌, ◌≤◌, not, true, false, Bool, Some, None, if◌then◌else◌, IsFalse, List, [], ◌∷◌, ◌++◌, length, map, refl, arith, inl, inr}
-use Rattle.std.proofs.lemmas.Bool.{and_parts, cases_eq, not-true}
-use Rattle.std.proofs.lemmas.Bool.Decides.{eqb_tells, nat_tests}
+use Rattle.std.proofs.Common.{◌≡◌, ℕ, zero, suc, nat_eq, nat_lt, ◌-◌, ◌<◌, ◌≤◌, not, true, false, Bool, Some, None, if◌then◌else◌, IsFalse, List, [], ◌∷◌, ◌++◌, length, map, refl, sym, arith, inl, inr}
+use Rattle.std.proofs.lemmas.Bool.{and_parts, cases_eq, eqb-true, ltb-false, ne_eqb, not-true}
+use Rattle.std.proofs.lemmas.Bool.Decides.{eqb_tells}
 use Rattle.std.proofs.lemmas.List.{map_push}
 use Rattle.std.proofs.lemmas.List.Elements.{All-push}
 use Rattle.meta_word.specs.Meta.{changing_by_another, still_has}
@@ -22,7 +22,7 @@ use Rattle.opacity.proofs.Ends.{stopped_open}
 use Rattle.opacity.proofs.Fits.{Fits, IsOpen, ending_is, goes_on_same, open_facts, open_fits, phase_is, safe_seen, stage_is}
 use Rattle.opacity.proofs.Samples.{fetched_now, not_written, noted_now, sampled_all, sampled_more, sampled_start, still_current}
 use Rattle.opacity.proofs.Shown.{all_at, Shows, names_checked}
-use Rattle.opacity.proofs.Stands.{IsPlain, Knows, Sound, sound_of}
+use Rattle.opacity.proofs.Stands.{IsPlain, Knows, Sound, sound_at, sound_of}
 use Rattle.opacity.proofs.Stepping.{stepped}
 use Rattle.opacity.proofs.Walks.{among, distinct_push}
 
@@ -39,20 +39,11 @@ unnoted : (notes : List Note) (cell : ℕ) → note_of notes cell ≡ None → a
 unnoted [] cell none = refl
 unnoted (note ∷ notes) cell none = elim (eqb_tells note.addr.0 cell) [
   | inl same ↦ absurd (some (rw same.0 at none))
-  | inr other ↦ rw (turned note.addr.0 cell other.1) (unnoted notes cell (rw other.0 at none))
+  | inr other ↦ rw (ne_eqb cell note.addr.0 (λ same. other.1 (sym same))) (unnoted notes cell (rw other.0 at none))
 ]
   where
     some : Some note ≡ None → ⊥
     some is = cc
-
-    turned : (first second : ℕ) → first ≢ second → nat_eq second first ≡ false
-    turned first second apart = grind (arith, nat_tests)
-
-not_less : (m n : ℕ) → nat_lt m n ≡ false → n ≤ m
-not_less m n test = grind (arith, nat_tests)
-
-pub same_number : (m n : ℕ) → nat_eq m n ≡ true → m ≡ n
-same_number m n test = grind (arith, nat_tests)
 
 module _ (terms : Terms) (w : World) (p : ℕ) (t : Attempt) (here : Stage) (is_open : IsOpen here) (phase : PhaseAt here t.ending t.phase) (ending : EndingAt here t.ending) (sound : Sound terms w p t) where
   to : (there : Stage) → IsOpen there → IsPlain there → SafeStage terms w t there → Fits terms w p (at t here) (at t there)
@@ -63,14 +54,14 @@ module _ (terms : Terms) (w : World) (p : ℕ) (t : Attempt) (here : Stage) (is_
   again cell zero cause shown read = stopped_open terms w p t here is_open phase ending sound cause shown
   again cell (suc left) cause shown read = to (ReadMeta cell left) tt tt read
 
-  first_look : (cell left : ℕ) → IsToRead terms t cell → Fits terms w p (at t here) (meta_read t cell left (w.meta cell))
+  meta_reads : (cell left : ℕ) → IsToRead terms t cell → Fits terms w p (at t here) (meta_read t cell left (w.meta cell))
   unfolding meta_read SafeStage Evidence NamesNote
-  first_look cell left read = go (changing_by_another t.own (w.meta cell)) refl
+  meta_reads cell left read = go (changing_by_another t.own (w.meta cell)) refl
     where
       next : (b : Bool) → nat_lt t.prefix (w.meta cell).version ≡ b → IsFalse (changing_by_another t.own (w.meta cell))
           → Fits terms w p (at t here) (if b then at t (ExtendClock cell left (w.meta cell)) else at t (ReadValue cell left (w.meta cell)))
       next true less quiet = to (ExtendClock cell left (w.meta cell)) tt tt (read, record { quiet = quiet; behind = omega arith })
-      next false more quiet = to (ReadValue cell left (w.meta cell)) tt tt (read, record { quiet = quiet; behind = omega arith }, not_less t.prefix (w.meta cell).version more)
+      next false more quiet = to (ReadValue cell left (w.meta cell)) tt tt (read, record { quiet = quiet; behind = omega arith }, ltb-false t.prefix (w.meta cell).version more)
 
       go : (b : Bool) → changing_by_another t.own (w.meta cell) ≡ b
           → Fits terms w p (at t here) (if b then read_again t cell left (ReadConflict (addr_of cell) (w.meta cell)) else
@@ -80,25 +71,12 @@ module _ (terms : Terms) (w : World) (p : ℕ) (t : Attempt) (here : Stage) (is_
 
   -- ---- an extension
 
-  later_sound : (clock : ℕ) → WasSampled w t clock [] → Sound terms w p (record t { prefix = clock })
-  later_sound clock sampled = record {
-    own = sound.own;
-    serial = sound.serial;
-    limit = sound.limit;
-    prefix = sampled.high;
-    notes = sampled_all w t clock terms.opening sampled sound.notes;
-    entry = sound.entry;
-    noted_cells = sound.noted_cells;
-    written_cells = sound.written_cells;
-    levels = sound.levels;
-  }
-
   extends : (cell left : ℕ) (first : Meta) (clock : ℕ) (behind : List Note) → IsToRead terms t cell → WasSeen w t cell first → first.version ≤ clock → WasSampled w t clock behind
       → Fits terms w p (at t here) (extend_on t cell left first clock behind)
   unfolding SafeStage
   extends cell left first clock [] read seen low sampled =
       open_fits terms w p t (record t { prefix = clock }) here (ReadValue cell left first) is_open tt tt phase ending
-      (record { serial = refl; phase = refl; ending = refl; prefix = sampled.low; writes = λ each. refl; sound = later_sound clock sampled })
+      (record { serial = refl; phase = refl; ending = refl; prefix = sampled.low; writes = λ each. refl; sound = sound_at terms w p t clock sound sampled.high (sampled_all w t clock terms.opening sampled sound.notes) })
       (record { in_range = read.in_range; unwritten = read.unwritten; unnoted = read.unnoted }, record { quiet = seen.quiet; behind = seen.behind }, low)
   extends cell left first clock (note ∷ behind) read seen low sampled = to (ExtendNote cell left first clock note behind) tt tt (read, seen, low, sampled)
 
@@ -143,17 +121,17 @@ module _ (lawful : List ℕ → Type 0) (may : List ℕ → List ℕ → Type 0)
   pub no_stamp : (stage : Stage) → IsOpen stage → t.stage ≡ stage → stamp_of t ≡ 0
   no_stamp stage is_open is = let none = (open_facts stage is_open).ending_from t.ending (ending_is terms w p stage own is) in rw none refl
 
-  pub keeps_first_look : (cell left : ℕ) → t.stage ≡ ReadMeta cell left → Safe lawful may terms (stepped w p (ReadMeta cell left))
+  pub keeps_read_meta : (cell left : ℕ) → t.stage ≡ ReadMeta cell left → Safe lawful may terms (stepped w p (ReadMeta cell left))
   unfolding next_at after_at words_after found seen_after since_at clock_after SafeStage
-  keeps_first_look cell left is =
+  keeps_read_meta cell left is =
       let stage = ReadMeta cell left in
       safe_seen lawful may terms w p safe caller stage is _
-      (first_look terms w p t stage tt (phase_is terms w p stage own is) (ending_is terms w p stage own is) sound cell left (stage_is terms w p stage own is))
+      (meta_reads terms w p t stage tt (phase_is terms w p stage own is) (ending_is terms w p stage own is) sound cell left (stage_is terms w p stage own is))
       (knows_attempt _ refl refl refl)
 
-  pub keeps_renew : (cell left : ℕ) (first : Meta) → t.stage ≡ ExtendClock cell left first → Safe lawful may terms (stepped w p (ExtendClock cell left first))
+  pub keeps_extend_clock : (cell left : ℕ) (first : Meta) → t.stage ≡ ExtendClock cell left first → Safe lawful may terms (stepped w p (ExtendClock cell left first))
   unfolding next_at after_at words_after found seen_after since_at clock_after SafeStage
-  keeps_renew cell left first is =
+  keeps_extend_clock cell left first is =
       let stage = ExtendClock cell left first in
       let at_stage : IsToRead terms t cell × WasSeen w t cell first = stage_is terms w p stage own is in
       let low : first.version ≤ w.clock = omega (arith, at_stage.1.behind, version_length terms w cell (safe.cells cell at_stage.0.in_range), safe.clock) in
@@ -162,9 +140,9 @@ module _ (lawful : List ℕ → Type 0) (may : List ℕ → List ℕ → Type 0)
       (sampled_start w t w.clock (omega (arith, own.prefix, safe.clock)) (omega (arith, safe.clock))))
       (knows_clock _ refl refl refl)
 
-  pub keeps_extend : (cell left : ℕ) (first : Meta) (clock : ℕ) (note : Note) (behind : List Note) → t.stage ≡ ExtendNote cell left first clock note behind → Safe lawful may terms (stepped w p (ExtendNote cell left first clock note behind))
+  pub keeps_extend_note : (cell left : ℕ) (first : Meta) (clock : ℕ) (note : Note) (behind : List Note) → t.stage ≡ ExtendNote cell left first clock note behind → Safe lawful may terms (stepped w p (ExtendNote cell left first clock note behind))
   unfolding next_at after_at words_after found seen_after since_at clock_after SafeStage extended Evidence NamesNote
-  keeps_extend cell left first clock note behind is =
+  keeps_extend_note cell left first clock note behind is =
       safe_seen lawful may terms w p safe caller stage is _ (go (still_has t.own note.version (w.meta note.addr.0)) refl) (knows_attempt _ refl refl refl)
     where
       stage : Stage
@@ -181,7 +159,7 @@ module _ (lawful : List ℕ → Type 0) (may : List ℕ → List ℕ → Type 0)
           let current : IsCurrent terms.opening w.history t.prefix note = all_at (IsCurrent terms.opening w.history t.prefix) at_stage.3.checked behind t.notes note at_stage.3.notes own.notes in
           let quiet : changing_by_another p (w.meta note.addr.0) ≡ false = rw own.own at (not-true (changing_by_another t.own (w.meta note.addr.0)) tests.1) in
           let none : stamp_on w note.addr.0 ≡ 0 = not_written lawful may terms w safe p note.addr.0 within (no_stamp stage tt is) quiet in
-          let still = still_current lawful may terms w safe t.prefix clock note within none (same_number _ _ tests.0) current at_stage.3.low at_stage.3.high in
+          let still = still_current lawful may terms w safe t.prefix clock note within none (eqb-true _ _ tests.0) current at_stage.3.low at_stage.3.high in
           extends terms w p t stage tt (phase_is terms w p stage own is) (ending_is terms w p stage own is) sound cell left first clock behind at_stage.0 at_stage.1 at_stage.2
           (sampled_more w t clock note behind at_stage.3 still)
       go false moved = stopped_open terms w p t stage tt (phase_is terms w p stage own is) (ending_is terms w p stage own is) sound (Stale note.addr note.version (w.meta note.addr.0)) (
@@ -189,9 +167,9 @@ module _ (lawful : List ℕ → Type 0) (may : List ℕ → List ℕ → Type 0)
         names_checked at_stage.3.checked behind t.notes note (w.meta note.addr.0) at_stage.3.notes,
       )
 
-  pub keeps_fetch : (cell left : ℕ) (first : Meta) → t.stage ≡ ReadValue cell left first → Safe lawful may terms (stepped w p (ReadValue cell left first))
+  pub keeps_read_value : (cell left : ℕ) (first : Meta) → t.stage ≡ ReadValue cell left first → Safe lawful may terms (stepped w p (ReadValue cell left first))
   unfolding next_at after_at words_after found seen_after since_at clock_after SafeStage
-  keeps_fetch cell left first is =
+  keeps_read_value cell left first is =
       let stage = ReadValue cell left first in
       let at_stage : IsToRead terms t cell × WasSeen w t cell first × (first.version ≤ t.prefix) = stage_is terms w p stage own is in
       safe_seen lawful may terms w p safe caller stage is _
@@ -199,9 +177,9 @@ module _ (lawful : List ℕ → Type 0) (may : List ℕ → List ℕ → Type 0)
       (at_stage.0, at_stage.1, at_stage.2, fetched_now lawful may terms w safe cell first.version at_stage.0.in_range at_stage.1.behind))
       (knows_attempt _ refl refl refl)
 
-  pub keeps_second_look : (cell left : ℕ) (first : Meta) (value : ℕ) → t.stage ≡ Validate cell left first value → Safe lawful may terms (stepped w p (Validate cell left first value))
+  pub keeps_validate : (cell left : ℕ) (first : Meta) (value : ℕ) → t.stage ≡ Validate cell left first value → Safe lawful may terms (stepped w p (Validate cell left first value))
   unfolding next_at after_at words_after found seen_after since_at clock_after SafeStage validated Evidence NamesNote
-  keeps_second_look cell left first value is =
+  keeps_validate cell left first value is =
       safe_seen lawful may terms w p safe caller stage is _ (go (still_has t.own first.version (w.meta cell)) refl) (knows_attempt _ refl refl refl)
     where
       stage : Stage
@@ -220,7 +198,7 @@ module _ (lawful : List ℕ → Type 0) (may : List ℕ → List ℕ → Type 0)
           let quiet : changing_by_another p (w.meta cell) ≡ false = rw own.own at (not-true (changing_by_another t.own (w.meta cell)) tests.1) in
           let none : stamp_on w cell ≡ 0 = not_written lawful may terms w safe p cell at_stage.0.in_range (no_stamp stage tt is) quiet in
           let current : IsCurrent terms.opening w.history t.prefix note =
-          noted_now lawful may terms w safe cell first.version value t.prefix note at_stage.0.in_range none (same_number _ _ tests.0) at_stage.2 own.prefix at_stage.3 refl refl refl in
+          noted_now lawful may terms w safe cell first.version value t.prefix note at_stage.0.in_range none (eqb-true _ _ tests.0) at_stage.2 own.prefix at_stage.3 refl refl refl in
           open_fits terms w p t (record t { notes = t.notes ++ note ∷ [] }) stage (Ready (Some value)) tt tt tt (phase_is terms w p stage own is) (ending_is terms w p stage own is)
           (record {
             serial = refl;

@@ -5,4 +5,4 @@ pub mod laws;
 pub mod words;
 mod world;
 
-pub use world::{Committed, World};
+pub use world::{Committed, World, opening_words};

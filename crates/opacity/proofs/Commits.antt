@@ -1,6 +1,6 @@
 -- The accesses of a commit that is not decided yet keep the world safe.
 use Rattle.std.proofs.Common.{length, ◌≡◌, ℕ, suc, nat_eq, nat_lt, ◌<◌, ◌≤◌, ◌++◌, not, true, false, Bool, Some, None, Option, if◌then◌else◌, List, [], ◌∷◌, refl, ◌∙◌, arith, inr}
-use Rattle.std.proofs.lemmas.Bool.{and_parts, not-true}
+use Rattle.std.proofs.lemmas.Bool.{and_parts, eqb-true, not-true}
 use Rattle.std.proofs.lemmas.Bool.Decides.{nat_tests}
 use Rattle.meta_word.specs.Meta.{changing_by_another, still_has}
 use Rattle.meta_word.specs.declared.status.Phase.{Phase}
@@ -22,10 +22,10 @@ use Rattle.stm_model.proofs.EvidenceLemmas.{is_stale}
 use Rattle.opacity.proofs.Decides.{decided_safe}
 use Rattle.opacity.proofs.Ends.{MayRoll, rolled_fits}
 use Rattle.opacity.proofs.Fits.{Fits, ending_is, phase_is, safe_local, safe_seen, stage_is}
-use Rattle.opacity.proofs.ReadSteps.{knows_attempt, knows_clock, same_number}
+use Rattle.opacity.proofs.ReadSteps.{knows_attempt, knows_clock}
 use Rattle.opacity.proofs.Samples.{not_written, sampled_all, sampled_more, sampled_start, still_current}
 use Rattle.opacity.proofs.Shown.{all_at, names_checked}
-use Rattle.opacity.proofs.Stands.{kept_flying, IsPlain, Sound, placed, sound_of}
+use Rattle.opacity.proofs.Stands.{IsPlain, Sound, follows_at, placed, sound_at, sound_of}
 use Rattle.opacity.proofs.Stepping.{stepped}
 
 -- Where it is to be decided, an attempt holds its cells, all of them marked.
@@ -74,7 +74,7 @@ module _ (terms : Terms) (w : World) (p : ℕ) (t : Attempt) (here : Stage) (wei
           unstored = λ held. rw (first.unstored, second.unstored) refl;
           stamp = λ held. refl;
         };
-        follows = record { serial = refl; phase = refl; prefix = omega arith; began = first.begun; begun = second.begun; kept = λ kept. kept_flying here t.ending first.flies; undecided = λ kept undecided. undecided };
+        follows = follows_at t _ here refl refl refl refl first.flies first.begun second.begun;
         safe = placed terms w p t sound (rw none tt) there (weighs_plain there then_weighs) (second.phase_to t.ending t.phase prepares) (second.ending_to t.ending none) stage;
       }
 
@@ -95,20 +95,6 @@ module _ (terms : Terms) (w : World) (p : ℕ) (t : Attempt) (here : Stage) (wei
       marked_all : (phase : Phase) (writes : List Write) → phase ≡ Preparing → [] ≡ (if has_prepared phase then [] else writes)
       marked_all phase writes is = rw is refl
 
-  -- the same attempt at a later prefix
-  later : (clock : ℕ) → WasSampled w t clock [] → Sound terms w p (record t { prefix = clock })
-  later clock sampled = record {
-    own = sound.own;
-    serial = sound.serial;
-    limit = sound.limit;
-    prefix = sampled.high;
-    notes = sampled_all w t clock terms.opening sampled sound.notes;
-    entry = sound.entry;
-    noted_cells = sound.noted_cells;
-    written_cells = sound.written_cells;
-    levels = sound.levels;
-  }
-
   below_limit : (clock limit own : ℕ) → own ≡ limit → clock ≤ limit → nat_eq clock own ≡ false → clock < limit
   below_limit clock limit own is low test = grind (arith, nat_tests)
 
@@ -117,7 +103,7 @@ module _ (terms : Terms) (w : World) (p : ℕ) (t : Attempt) (here : Stage) (wei
   checks lost clock [] some low sampled = go (nat_eq clock t.settings.clock) refl
     where
       go : (b : Bool) → nat_eq clock t.settings.clock ≡ b → Fits terms w p (at t here) (if b then rolled (record t { prefix = clock }) (ClockEnd clock) else at t (Decide lost clock))
-      go true end = rolled_fits terms w p t (record t { prefix = clock }) here (ClockEnd clock) (same_number clock t.settings.clock end, tt) may_roll (later clock sampled) refl refl sampled.low refl
+      go true end = rolled_fits terms w p t (record t { prefix = clock }) here (ClockEnd clock) (eqb-true clock t.settings.clock end, tt) may_roll (sound_at terms w p t clock sound sampled.high (sampled_all w t clock terms.opening sampled sound.notes)) refl refl sampled.low refl
       go false room = to_weigh (Decide lost clock) tt (some, sampled, below_limit clock terms.limit t.settings.clock sound.limit low room)
   checks lost clock (note ∷ behind) some low sampled = to_weigh (CommitNote lost clock note behind) tt (some, sampled)
 
@@ -131,9 +117,9 @@ module _ (lawful : List ℕ → Type 0) (may : List ℕ → List ℕ → Type 0)
   sound : Sound terms w p t
   sound = sound_of terms w p t own
 
-  pub keeps_sample : (lost : ℕ) → t.stage ≡ CommitClock lost → Safe lawful may terms (stepped w p (CommitClock lost))
+  pub keeps_commit_clock : (lost : ℕ) → t.stage ≡ CommitClock lost → Safe lawful may terms (stepped w p (CommitClock lost))
   unfolding next_at after_at words_after found seen_after since_at clock_after SafeStage
-  keeps_sample lost is =
+  keeps_commit_clock lost is =
       let stage = CommitClock lost in
       safe_seen lawful may terms w p safe caller stage is _
       (checks terms w p t stage tt (phase_is terms w p stage own is) (ending_is terms w p stage own is) sound lost w.clock t.notes (stage_is terms w p stage own is) safe.limit
@@ -143,9 +129,9 @@ module _ (lawful : List ℕ → Type 0) (may : List ℕ → List ℕ → Type 0)
   no_stamp : (stage : Stage) → Weighs stage → t.stage ≡ stage → stamp_of t ≡ 0
   no_stamp stage weighs is = let none = (weigh_facts stage weighs).ending_from t.ending (ending_is terms w p stage own is) in rw none refl
 
-  pub keeps_check : (lost clock : ℕ) (note : Note) (behind : List Note) → t.stage ≡ CommitNote lost clock note behind → Safe lawful may terms (stepped w p (CommitNote lost clock note behind))
+  pub keeps_commit_note : (lost clock : ℕ) (note : Note) (behind : List Note) → t.stage ≡ CommitNote lost clock note behind → Safe lawful may terms (stepped w p (CommitNote lost clock note behind))
   unfolding next_at after_at words_after found seen_after since_at clock_after SafeStage note_validated Evidence NamesNote
-  keeps_check lost clock note behind is =
+  keeps_commit_note lost clock note behind is =
       safe_seen lawful may terms w p safe caller stage is _ (go (still_has t.own note.version (w.meta note.addr.0)) refl) (knows_attempt lawful may terms w p safe caller _ refl refl refl)
     where
       stage : Stage
@@ -165,7 +151,7 @@ module _ (lawful : List ℕ → Type 0) (may : List ℕ → List ℕ → Type 0)
           let current : IsCurrent terms.opening w.history t.prefix note = all_at (IsCurrent terms.opening w.history t.prefix) sampled.checked behind t.notes note sampled.notes own.notes in
           let quiet : changing_by_another p (w.meta note.addr.0) ≡ false = rw own.own at (not-true (changing_by_another t.own (w.meta note.addr.0)) tests.1) in
           let none : stamp_on w note.addr.0 ≡ 0 = not_written lawful may terms w safe p note.addr.0 within (no_stamp stage tt is) quiet in
-          let still = still_current lawful may terms w safe t.prefix clock note within none (same_number _ _ tests.0) current sampled.low sampled.high in
+          let still = still_current lawful may terms w safe t.prefix clock note within none (eqb-true _ _ tests.0) current sampled.low sampled.high in
           checks terms w p t stage tt (phase_is terms w p stage own is) (ending_is terms w p stage own is) sound lost clock behind at_stage.0 (omega (arith, sampled.high, safe.clock, safe.limit)) (sampled_more w t clock note behind sampled still)
       go false moved = rolled_fits terms w p t t stage (Stale note.addr note.version (w.meta note.addr.0)) (
         is_stale t.own note.version (w.meta note.addr.0) moved,
@@ -173,9 +159,6 @@ module _ (lawful : List ℕ → Type 0) (may : List ℕ → List ℕ → Type 0)
       ) (may_roll terms w p t stage tt (phase_is terms w p stage own is) (ending_is terms w p stage own is) sound) sound refl refl (omega arith) refl
 
   -- ---- the exchange of the clock
-
-  turned : (m n : ℕ) → nat_eq m n ≡ nat_eq n m
-  turned m n = grind (arith, nat_tests)
 
   lost_fits : (lost clock : ℕ) → t.stage ≡ Decide lost clock → nat_eq w.clock clock ≡ false → Fits terms w p (at t (Decide lost clock)) (if nat_lt lost t.settings.tries then at t (CommitClock (suc lost)) else rolled t (ClockMoved clock w.clock))
   unfolding SafeStage Evidence NamesNote
@@ -205,5 +188,5 @@ module _ (lawful : List ℕ → Type 0) (may : List ℕ → List ℕ → Type 0)
                 else if nat_lt lost t.settings.tries then at t (CommitClock (suc lost)) else rolled t (ClockMoved clock w.clock);
             seen = if b then suc clock else (w.view p).seen;
           }))
-      go true won = decided_safe lawful may terms w p safe caller lost clock (run_all (committing t.now.hooks)) is (same_number w.clock clock won) (owes (same_number w.clock clock won))
+      go true won = decided_safe lawful may terms w p safe caller lost clock (run_all (committing t.now.hooks)) is (eqb-true w.clock clock won) (owes (eqb-true w.clock clock won))
       go false lost_it = safe_local lawful may terms w p safe caller (Decide lost clock) is _ (lost_fits lost clock is lost_it)
