@@ -11,9 +11,7 @@ ghost use Rattle.stm_model.specs.declared.access.Access.TheVariants.{Exchange};
 ghost use Rattle.stm_model.specs.Accesses.{meta_of_cell, next_access, owned};
 ghost use Rattle.stm_model.specs.After.{meta_acquired, after_word, at, note_of, owner_status_loaded, owner_validated, exchanged, acquire_again, write_refused};
 ghost use Rattle.stm_model.specs.Attempt.{AcquireMeta, Attempt};
-ghost use Rattle.stm_model.specs.Evidence.{IsEvident};
-ghost use Rattle.stm_model.specs.Safe.{IsFree};
-ghost use Rattle.op_commit.specs.Acquire.{EndHasEvidence, EndShows, IsAcquiring, IsOfSafeCell, IsOfSafeWorld, IsOwnedOrMoved, IsWithin, KeepsPending, KnowsSafe, RefusalShows, accesses_left, acquiring, end_of_acquire, met, rounds_left, version_in};
+ghost use Rattle.op_commit.specs.Acquire.{IsAcquiring, IsWithin, accesses_left, acquiring, end_of_acquire, met, rounds_left, version_in};
 ghost use Rattle.op_commit.specs.declared.acquire.AcquireEnd.TheVariants.{Owned};
 ghost use Rattle.op_commit.specs.declared.acquire.AcquirePlace.TheVariants as at_acquire;
 
@@ -30,7 +28,7 @@ pub enum AcquireEnd {
 }
 
 /// Where a first write stands. The first look of the round showed `first`.
-#[derive(Clone, Copy, Debug, PartialEq, Eq)]
+#[derive(Clone, Copy)]
 pub enum AcquirePlace {
     AcquireMeta,
     /// It exchanges the word that it expects, again where the pending bit alone came between.
@@ -56,7 +54,7 @@ pub enum AcquirePlace {
 }
 
 /// The first write of a cell.
-#[derive(Clone, Copy, Debug, PartialEq, Eq)]
+#[derive(Clone, Copy)]
 pub struct AcquireOp {
     pub addr: Addr,
     /// The number of the caller that writes.
@@ -80,7 +78,6 @@ impl AcquireOp {
         ensures going { end_of_acquire result ≡ None }
         ensures for_attempt { (t : Attempt) → t.own ≡ own → t.settings.policy ≡ policy → version_in (note_of t.notes addr.0) ≡ noted → IsAcquiring result t }
         ensures within { IsWithin result }
-        ensures knows { KnowsSafe result }
         ensures bound { accesses_left result ≤ (looks policy + 1) * 4 }
     {
         AcquireOp {
@@ -127,8 +124,7 @@ impl AcquireOp {
         }
     }
 
-    /// Takes the word that the access found. Where all words so far are those of a safe world, the cause of
-    /// a bad end has its evidence.
+    /// Takes the word that the access found.
     #[tactic(auto, unfolding(stm_model::specs::After::after_at, stm_model::specs::Accesses::next_at, stm_model::specs::Accesses::answer_of))]
     pub fn take<N: Notes>(&mut self, _notes: &N, answer: u64)
         requires going { IsNone (end_of_acquire self.old) }
@@ -139,9 +135,6 @@ impl AcquireOp {
             next_access (acquiring self.old value t) ≡ Some (Exchange (meta_of_cell self.old.addr.0) answer (meta_word (owned self.old.own meta))) }
         ensures cell { self.new.addr ≡ self.old.addr }
         ensures same { (t : Attempt) → IsAcquiring self.old t → IsAcquiring self.new t }
-        ensures refusal { IfSome (end_of_acquire self.new) (EndShows self.old) }
-        ensures knows { KnowsSafe self.old → IsOfSafeWorld self.old.place self.old.own answer → KnowsSafe self.new }
-        ensures evidence { KnowsSafe self.old → IsOfSafeWorld self.old.place self.old.own answer → IfSome (end_of_acquire self.new) (EndHasEvidence self.old.own) }
         ensures within { IsWithin self.new }
         ensures falls { accesses_left self.new < accesses_left self.old }
     {
@@ -162,7 +155,7 @@ impl AcquireOp {
     }
 
     // The first look of a round showed this.
-    #[tactic(auto, unfolding(stm_model::specs::After::acquiring, stm_model::specs::Evidence::Evidence))]
+    #[tactic(auto, unfolding(stm_model::specs::After::acquiring))]
     fn look(&mut self, first: Meta)
         requires place { self.old.place ≡ at_acquire.AcquireMeta }
         requires within { IsWithin self.old }
@@ -172,9 +165,6 @@ impl AcquireOp {
         ensures not_yet { (meta : Meta) → end_of_acquire self.new ≡ Some (Owned meta) → ⊥ }
         ensures cell { self.new.addr ≡ self.old.addr }
         ensures same { (t : Attempt) → IsAcquiring self.old t → IsAcquiring self.new t }
-        ensures refusal { IfSome (end_of_acquire self.new) (EndShows self.old) }
-        ensures knows { IsOfSafeCell self.old.own first → KnowsSafe self.new }
-        ensures evidence { IsOfSafeCell self.old.own first → IfSome (end_of_acquire self.new) (EndHasEvidence self.old.own) }
         ensures within { IsWithin self.new }
         ensures falls { accesses_left self.new < accesses_left self.old }
     {
@@ -206,9 +196,6 @@ impl AcquireOp {
         ensures not_yet { (meta : Meta) → end_of_acquire self.new ≡ Some (Owned meta) → ⊥ }
         ensures cell { self.new.addr ≡ self.old.addr }
         ensures same { (t : Attempt) → IsAcquiring self.old t → IsAcquiring self.new t }
-        ensures refusal { IfSome (end_of_acquire self.new) (EndShows self.old) }
-        ensures knows { IsTrue (owned_by_another self.old.own first) → KnowsSafe self.new }
-        ensures evidence { IsTrue (owned_by_another self.old.own first) → IfSome (end_of_acquire self.new) (EndHasEvidence self.old.own) }
         ensures within { IsWithin self.new }
         ensures falls { accesses_left self.new < accesses_left self.old }
     {
@@ -239,9 +226,6 @@ impl AcquireOp {
         ensures won { (meta : Meta) → end_of_acquire self.new ≡ Some (Owned meta) → found ≡ expected }
         ensures cell { self.new.addr ≡ self.old.addr }
         ensures same { (t : Attempt) → IsAcquiring self.old t → IsAcquiring self.new t }
-        ensures refusal { IfSome (end_of_acquire self.new) (EndShows self.old) }
-        ensures knows { IsFree first expected again → IsOfSafeCell self.old.own found → KeepsPending expected found → KnowsSafe self.new }
-        ensures evidence { IsFree first expected again → IsOfSafeCell self.old.own found → KeepsPending expected found → IfSome (end_of_acquire self.new) (EndHasEvidence self.old.own) }
         ensures within { IsWithin self.new }
         ensures falls { accesses_left self.new < accesses_left self.old }
     {
@@ -270,9 +254,6 @@ impl AcquireOp {
         ensures not_yet { (meta : Meta) → end_of_acquire self.new ≡ Some (Owned meta) → ⊥ }
         ensures cell { self.new.addr ≡ self.old.addr }
         ensures same { (t : Attempt) → IsAcquiring self.old t → IsAcquiring self.new t }
-        ensures refusal { IfSome (end_of_acquire self.new) (EndShows self.old) }
-        ensures knows { IsTrue (owned_by_another self.old.own first) → KnowsSafe self.new }
-        ensures evidence { IsTrue (owned_by_another self.old.own first) → IfSome (end_of_acquire self.new) (EndHasEvidence self.old.own) }
         ensures within { IsWithin self.new }
         ensures falls { accesses_left self.new < accesses_left self.old }
     {
@@ -293,9 +274,6 @@ impl AcquireOp {
         ensures not_yet { (meta : Meta) → end_of_acquire self.new ≡ Some (Owned meta) → ⊥ }
         ensures cell { self.new.addr ≡ self.old.addr }
         ensures same { (t : Attempt) → IsAcquiring self.old t → IsAcquiring self.new t }
-        ensures refusal { IfSome (end_of_acquire self.new) (EndShows self.old) }
-        ensures knows { IsTrue (owned_by_another self.old.own first) → IsOfSafeCell self.old.own second → KnowsSafe self.new }
-        ensures evidence { IsTrue (owned_by_another self.old.own first) → IsOfSafeCell self.old.own second → IfSome (end_of_acquire self.new) (EndHasEvidence self.old.own) }
         ensures within { IsWithin self.new }
         ensures falls { accesses_left self.new < accesses_left self.old }
     {
@@ -318,9 +296,6 @@ impl AcquireOp {
         ensures not_yet { (meta : Meta) → end_of_acquire self.new ≡ Some (Owned meta) → ⊥ }
         ensures cell { self.new.addr ≡ self.old.addr }
         ensures same { (t : Attempt) → IsAcquiring self.old t → IsAcquiring self.new t }
-        ensures refusal { IfSome (end_of_acquire self.new) (EndShows self.old) }
-        ensures knows { KnowsSafe self.new }
-        ensures evidence { IsOwnedOrMoved self.old.own first latest → IfSome (end_of_acquire self.new) (EndHasEvidence self.old.own) }
         ensures within { IsWithin self.new }
         ensures falls { accesses_left self.new ≤ 4 * rounds_left self.old }
     {
@@ -334,11 +309,8 @@ impl AcquireOp {
     }
 
     // Why the first write is refused, the last round having ended with this word.
-    #[tactic(auto, unfolding(stm_model::specs::Evidence::Evidence))]
     fn refusal(&self, first: Meta, latest: Meta) -> Cause
         ensures is { result ≡ write_refused self.now.own self.now.addr.0 first latest }
-        ensures shows { RefusalShows self.now result }
-        ensures evidence { IsOwnedOrMoved self.now.own first latest → IsEvident self.now.own result }
     {
         if latest.is_owned_by_another(self.own) {
             Cause::WriteConflict {

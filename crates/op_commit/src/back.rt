@@ -1,12 +1,14 @@
 //! The way back: cells are given back, the first ones first. So a level is undone, and so an attempt is
 //! rolled back, which then stores that it is over.
-ghost use Rattle.std.specs.Prelude.{◌≡◌, ◌<◌, ◌≤◌, ◌+◌, [], ℕ, true, false, List, Option, IsNone, IsSome, None, drop, length, take};
+ghost use Rattle.std.specs.Prelude.{◌≡◌, ◌<◌, ◌≤◌, ◌+◌, [], ◌∷◌, ℕ, true, false, List, Option, IsNone, IsSome, None, drop, length};
 ghost use Rattle.meta_word.specs.declared.status.TheConstants.{MAX_SERIAL};
 ghost use Rattle.stm_model.specs.declared.cause.Addr.{Addr};
 ghost use Rattle.stm_model.specs.declared.note.Note.{Note};
 ghost use Rattle.stm_model.specs.Accesses.{next_access};
-ghost use Rattle.stm_model.specs.After.{after_word, release_level_on, roll_on};
+ghost use Rattle.stm_model.specs.After.{after_word, roll_on};
 ghost use Rattle.stm_model.specs.Attempt.{Attempt};
+ghost use Rattle.stm_model.specs.CellsState.{Book};
+ghost use Rattle.stm_model.specs.Moves.{undo_level};
 ghost use Rattle.op_commit.specs.Back.{IsAlong, IsBacking, IsInPlace, accesses_left, backing, backing_at, due_at, due_by, end_of_back, left_at};
 ghost use Rattle.op_commit.specs.Buffered.{buffered, ring_for};
 ghost use Rattle.op_commit.specs.declared.back.BackPlace.TheVariants as at_back;
@@ -22,7 +24,7 @@ pub enum BackEnd {
 }
 
 /// Where a way back stands.
-#[derive(Clone, Copy, Debug, PartialEq, Eq)]
+#[derive(Clone, Copy)]
 pub enum BackPlace {
     /// The cell of this index is next, and behind the last one the status.
     Cell { index: usize },
@@ -30,13 +32,11 @@ pub enum BackPlace {
 }
 
 /// The way back over buffered cells.
-#[derive(Clone, Copy, Debug, PartialEq, Eq)]
+#[derive(Clone, Copy)]
 pub struct BackOp {
     /// The number of the caller, and of its attempt.
     pub own: u16,
     pub serial: u64,
-    /// The cells before this one stay.
-    pub first: usize,
     /// The attempt is over with it.
     pub whole: bool,
     /// The cell whose pending bit the last access found.
@@ -48,7 +48,8 @@ impl BackOp {
     /// A way back that has made no access.
     pub fn new(own: u16, serial: u64, first: usize, whole: bool) -> BackOp
         requires { serial ≤ MAX_SERIAL }
-        ensures undoes { whole ≡ false → (t : Attempt) → backing result t ≡ release_level_on t (take first t.now.writes) (drop first t.now.writes) }
+        ensures undoes { whole ≡ false → (t : Attempt) (former : Book) (books : List Book) → t.saved ≡ former ∷ books → length former.writes ≡ first →
+            backing result t ≡ undo_level t t.saved }
         ensures rolls { whole ≡ true → (t : Attempt) → backing result t ≡ roll_on t (drop first t.now.writes) }
         ensures going { end_of_back result ≡ None }
         ensures whole { result.whole ≡ whole }
@@ -60,7 +61,6 @@ impl BackOp {
         BackOp {
             own,
             serial,
-            first,
             whole,
             rung: None,
             place: BackPlace::Cell { index: first },
@@ -121,7 +121,7 @@ impl BackOp {
     fn back_from(&self, index: usize, count: usize) -> BackPlace
         requires { index ≤ count }
         ensures stands { (t : Attempt) → length t.now.writes ≡ count →
-            backing_at (at_back.Cell index) self.now.first self.now.whole t ≡ backing_at result self.now.first self.now.whole t }
+            backing_at (at_back.Cell index) self.now.whole t ≡ backing_at result self.now.whole t }
         ensures due { (t : Attempt) (rung : Option Addr) → due_at result self.now.whole rung t ≡ ring_for rung }
         ensures in_place { (notes : List Note) → length notes ≡ count → IsInPlace result self.now.whole notes }
         ensures left { left_at result self.now.whole count ≡ left_at (at_back.Cell index) self.now.whole count }

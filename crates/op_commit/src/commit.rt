@@ -9,12 +9,11 @@ ghost use Rattle.meta_word.specs.declared.status.TheConstants.{MAX_SERIAL};
 ghost use Rattle.meta_word.specs.declared.status.Phase.TheVariants.{Preparing};
 ghost use Rattle.stm_model.specs.declared.access.Access.TheVariants.{Exchange};
 ghost use Rattle.stm_model.specs.declared.access.Word.TheVariants.{Status};
-ghost use Rattle.stm_model.specs.declared.cause.Cause.TheVariants.{Stale};
 ghost use Rattle.stm_model.specs.declared.note.Note.{Note};
 ghost use Rattle.stm_model.specs.Accesses.{active, next_access, released};
 ghost use Rattle.stm_model.specs.After.{after_word, at, validate_on, decided, mark_on, prepared, release_on, store_on};
 ghost use Rattle.stm_model.specs.Attempt.{Attempt, Prepare};
-ghost use Rattle.op_commit.specs.Commit.{ClockFits, IsAlong, IsCommitting, IsInPlace, IsOfOwnAttempt, IsOfSafeWorld, IsStop, PlaceHasEvidence, PlaceShows, accesses_left, committing, committing_at, due_at, due_by, end_at, end_of_commit, in_preparation, left_at, notes_to_commit, rounds, stamped};
+ghost use Rattle.op_commit.specs.Commit.{ClockFits, IsAlong, IsCommitting, IsInPlace, IsStop, accesses_left, committing, committing_at, due_at, due_by, end_at, end_of_commit, in_preparation, left_at, notes_to_commit, rounds, stamped};
 ghost use Rattle.op_commit.specs.Buffered.{ring_for};
 ghost use Rattle.op_commit.specs.declared.commit.CommitEnd.TheVariants.{Bad};
 ghost use Rattle.stm_model.specs.declared.cause.Addr.{Addr};
@@ -22,7 +21,7 @@ ghost use Rattle.op_commit.specs.declared.commit.CommitPlace.TheVariants as at_c
 
 use crate::rings::cell_to_ring;
 use meta_word::{CHANGING_BIT, Phase, pack_meta, pack_status, unpack_meta, unpack_status};
-use stm_model::{Access, Addr, Cause, Meta, Note, Notes, TxnStatus, Word};
+use stm_model::{Access, Addr, Cause, Meta, Notes, TxnStatus, Word};
 
 /// How a commit ended, or where it stops.
 #[derive(Clone, Copy, Debug, PartialEq, Eq)]
@@ -37,7 +36,7 @@ pub enum CommitEnd {
 }
 
 /// Where a commit stands. The clock was lost so many times, and was loaded last as `clock`.
-#[derive(Clone, Copy, Debug, PartialEq, Eq)]
+#[derive(Clone, Copy)]
 pub enum CommitPlace {
     Prepare,
     Mark { index: usize },
@@ -51,7 +50,7 @@ pub enum CommitPlace {
 }
 
 /// The commit of an attempt that has written.
-#[derive(Clone, Copy, Debug, PartialEq, Eq)]
+#[derive(Clone, Copy)]
 pub struct CommitOp {
     /// The number of the caller, and of its attempt.
     pub own: u16,
@@ -152,9 +151,8 @@ impl CommitOp {
         })
     }
 
-    /// Takes the word that the access found. Where it is one of a safe world, the cause of a bad end has its
-    /// evidence for all settings with this limit of the clock.
-    #[tactic(auto, using(stm_model::proofs::EvidenceLemmas::is_stale), unfolding(stm_model::specs::After::after_at, stm_model::specs::After::final_runs, stm_model::specs::Accesses::next_at, stm_model::specs::Accesses::answer_of, stm_model::specs::Evidence::Evidence))]
+    /// Takes the word that the access found.
+    #[tactic(auto, unfolding(stm_model::specs::After::after_at, stm_model::specs::After::final_runs, stm_model::specs::Accesses::next_at, stm_model::specs::Accesses::answer_of))]
     pub fn take<N: Notes>(&mut self, notes: &N, answer: u64)
         requires along { IsAlong self.old (N.notes notes.now) }
         requires going { IsNone (end_of_commit self.old) }
@@ -163,8 +161,6 @@ impl CommitOp {
         ensures after { (t : Attempt) → t.due ≡ [] → IsCommitting self.old t → N.notes notes.now ≡ notes_to_commit t →
             after_word (committing self.old t) answer ≡ committing self.new (record t { due = due_by self.new t }) }
         ensures same { (t : Attempt) → IsCommitting self.old t → IsCommitting self.new t }
-        ensures failure { PlaceShows self.old self.new.place }
-        ensures evidence { IsOfSafeWorld self.old.place self.old.serial answer → PlaceHasEvidence self.old self.new.place }
         ensures falls { (reads : ℕ) → length (N.notes notes.now) ≡ self.old.writes + reads → accesses_left self.new reads < accesses_left self.old reads }
     {
         let count = notes.len();
@@ -181,13 +177,16 @@ impl CommitOp {
                 if found.still_has(self.own, note.version) {
                     self.place = self.check_from(lost, clock, index + 1, count);
                 } else {
-                    self.place = stale(note, found);
+                    self.place = refused(note.stale(found));
                 }
             }
             CommitPlace::Decide { lost, clock } => self.place = self.after_decide(
                 lost, clock, answer,
             ),
-            CommitPlace::StoreValues { stamp, index } => self.place = self.store_from(stamp, index + 1),
+            CommitPlace::StoreValues { stamp, index } => self.place = self.store_from(
+                stamp,
+                index + 1,
+            ),
             CommitPlace::Release { stamp, index } => {
                 self.rung = cell_to_ring(unpack_meta(answer), notes.at(index).addr);
                 self.place = self.release_from(stamp, index + 1);
@@ -200,10 +199,8 @@ impl CommitOp {
     }
 
     // The exchange of its status found this.
-    #[tactic(auto, unfolding(stm_model::specs::After::prepared, stm_model::specs::Evidence::Evidence))]
+    #[tactic(auto, unfolding(stm_model::specs::After::prepared))]
     fn after_prepare(&self, found: TxnStatus) -> CommitPlace
-        ensures failure { PlaceShows self.now result }
-        ensures evidence { IsOfOwnAttempt self.now.serial found → PlaceHasEvidence self.now result }
         ensures stands { (t : Attempt) → t.due ≡ [] → IsCommitting self.now t →
             prepared t found ≡ committing_at result self.now.writes (record t { due = due_at result None t }) }
         ensures in_place { (count : ℕ) → IsInPlace result self.now.writes self.now.limit count }
@@ -219,8 +216,6 @@ impl CommitOp {
     // The cells before this index are marked.
     fn mark_from(&self, index: usize) -> CommitPlace
         requires { index ≤ self.now.writes }
-        ensures failure { PlaceShows self.now result }
-        ensures evidence { PlaceHasEvidence self.now result }
         ensures stands { (t : Attempt) → IsCommitting self.now t →
             mark_on (in_preparation t) (drop index t.now.writes) ≡ committing_at result self.now.writes t }
         ensures due { (t : Attempt) → due_at result None t ≡ [] }
@@ -236,13 +231,11 @@ impl CommitOp {
     }
 
     // Of so many notes, those before this index hold good at the clock.
-    #[tactic(auto, unfolding(stm_model::specs::After::validate_on, stm_model::specs::Evidence::Evidence))]
+    #[tactic(auto, unfolding(stm_model::specs::After::validate_on))]
     fn check_from(&self, lost: u16, clock: u64, index: usize, count: usize) -> CommitPlace
         requires behind { self.now.writes ≤ index }
         requires within { index ≤ count }
         requires clock { clock ≤ self.now.limit }
-        ensures failure { PlaceShows self.now result }
-        ensures evidence { PlaceHasEvidence self.now result }
         ensures stands { (t : Attempt) → IsCommitting self.now t → count ≡ self.now.writes + length t.notes →
             validate_on (in_preparation t) lost clock (drop (index - self.now.writes) t.notes) ≡ committing_at result self.now.writes t }
         ensures due { (t : Attempt) → due_at result None t ≡ [] }
@@ -263,11 +256,9 @@ impl CommitOp {
     }
 
     // The exchange of the clock found this.
-    #[tactic(auto, unfolding(stm_model::specs::After::decided, stm_model::specs::Evidence::Evidence))]
+    #[tactic(auto, unfolding(stm_model::specs::After::decided))]
     fn after_decide(&self, lost: u16, clock: u64, found: u64) -> CommitPlace
         requires { clock < self.now.limit }
-        ensures failure { PlaceShows self.now result }
-        ensures evidence { clock ≤ found → PlaceHasEvidence self.now result }
         ensures stands { (t : Attempt) → t.due ≡ [] → IsCommitting self.now t →
             decided (in_preparation t) lost clock found ≡ committing_at result self.now.writes (record t { due = due_at result None t }) }
         ensures in_place { (count : ℕ) → IsInPlace result self.now.writes self.now.limit count }
@@ -288,8 +279,6 @@ impl CommitOp {
     // The values before this index are stored.
     fn store_from(&self, stamp: u64, index: usize) -> CommitPlace
         requires { index ≤ self.now.writes }
-        ensures failure { PlaceShows self.now result }
-        ensures evidence { PlaceHasEvidence self.now result }
         ensures stands { (t : Attempt) → IsCommitting self.now t →
             store_on (stamped t stamp) (drop index t.now.writes) ≡ committing_at result self.now.writes t }
         ensures due { (t : Attempt) → due_at result None t ≡ [] }
@@ -307,8 +296,6 @@ impl CommitOp {
     // The cells before this index are released.
     fn release_from(&self, stamp: u64, index: usize) -> CommitPlace
         requires { index ≤ self.now.writes }
-        ensures failure { PlaceShows self.now result }
-        ensures evidence { PlaceHasEvidence self.now result }
         ensures stands { (t : Attempt) → IsCommitting self.now t →
             release_on (stamped t stamp) (drop index t.now.writes) ≡ committing_at result self.now.writes t }
         ensures due { (t : Attempt) (rung : Option Addr) → due_at result rung t ≡ ring_for rung }
@@ -365,17 +352,6 @@ fn refused(cause: Cause) -> CommitPlace
     CommitPlace::Ended(CommitEnd::Bad {
         cause,
         prefix: None,
-    })
-}
-
-// The cell was noted at another version, or is about to change.
-fn stale(note: Note, found: Meta) -> CommitPlace
-    ensures { result ≡ at_commit.Ended (Bad (Stale note.addr note.version found) None) }
-{
-    refused(Cause::Stale {
-        addr: note.addr,
-        version: note.version,
-        meta: found,
     })
 }
 

@@ -17,14 +17,14 @@ pub enum FreeEnd {
 }
 
 /// Where it stands.
-#[derive(Clone, Copy, Debug, PartialEq, Eq)]
+#[derive(Clone, Copy)]
 pub enum FreePlace {
     Look,
     Ended(FreeEnd),
 }
 
 /// The look at a cell that another owned.
-#[derive(Clone, Copy, Debug, PartialEq, Eq)]
+#[derive(Clone, Copy)]
 pub struct FreeOp {
     pub addr: Addr,
     /// The number of the caller that waits.

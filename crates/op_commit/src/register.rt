@@ -20,7 +20,7 @@ pub enum WatchEnd {
 }
 
 /// Where it stands.
-#[derive(Clone, Copy, Debug, PartialEq, Eq)]
+#[derive(Clone, Copy)]
 pub enum RegisterPlace {
     /// The note of this index is next.
     Note { index: usize },
@@ -29,7 +29,7 @@ pub enum RegisterPlace {
 }
 
 /// The round over the notes of what was read. There is a note at least.
-#[derive(Clone, Copy, Debug, PartialEq, Eq)]
+#[derive(Clone, Copy)]
 pub struct RegisterOp {
     /// The number of the caller that waits.
     pub own: u16,

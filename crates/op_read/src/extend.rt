@@ -6,7 +6,7 @@ ghost use Rattle.stm_model.specs.Accesses.{next_access};
 ghost use Rattle.stm_model.specs.After.{after_word, at, extend_on};
 ghost use Rattle.stm_model.specs.Attempt.{Attempt, ExtendClock};
 ghost use Rattle.op_read.specs.Read.{IsLoad};
-ghost use Rattle.op_read.specs.Extend.{ExtensionShows, IsAlong, IsExtending, end_of_extension, extending, looks_left};
+ghost use Rattle.op_read.specs.Extend.{IsAlong, IsExtending, end_of_extension, extending, looks_left};
 
 use meta_word::unpack_meta;
 use stm_model::{Access, Cause, Notes, Word};
@@ -20,7 +20,7 @@ pub enum ExtendEnd {
 }
 
 /// Where an extension stands.
-#[derive(Clone, Copy, Debug, PartialEq, Eq)]
+#[derive(Clone, Copy)]
 pub enum ExtendPlace {
     ExtendClock,
     /// It looks at the note of this index, the clock having been loaded.
@@ -29,7 +29,7 @@ pub enum ExtendPlace {
 }
 
 /// The extension of an attempt's prefix over its notes.
-#[derive(Clone, Copy, Debug, PartialEq, Eq)]
+#[derive(Clone, Copy)]
 pub struct ExtendOp {
     /// The number of the caller that reads.
     pub own: u16,
@@ -62,13 +62,15 @@ impl ExtendOp {
     {
         match self.place {
             ExtendPlace::ExtendClock => Some(Access::Load(Word::Clock)),
-            ExtendPlace::ExtendNote { index, .. } => Some(Access::Load(Word::Meta(notes.at(index).addr))),
+            ExtendPlace::ExtendNote { index, .. } => Some(Access::Load(Word::Meta(
+                notes.at(index).addr,
+            ))),
             ExtendPlace::Ended(_) => None,
         }
     }
 
     /// Takes the word that the access found.
-    #[tactic(auto, using(stm_model::proofs::EvidenceLemmas::is_stale), unfolding(stm_model::specs::After::after_at, stm_model::specs::After::extended, stm_model::specs::Accesses::next_at, stm_model::specs::Accesses::answer_of, stm_model::specs::Evidence::Evidence))]
+    #[tactic(auto, unfolding(stm_model::specs::After::after_at, stm_model::specs::After::extended, stm_model::specs::Accesses::next_at, stm_model::specs::Accesses::answer_of))]
     pub fn take<N: Notes>(&mut self, notes: &N, answer: u64)
         requires along { IsAlong self.old (N.notes notes.now) }
         requires going { IsNone (end_of_extension self.old) }
@@ -76,7 +78,6 @@ impl ExtendOp {
         ensures after { (t : Attempt) (cell left : ℕ) (first : Meta) → t.due ≡ [] → t.notes ≡ N.notes notes.now → IsExtending self.old t →
             after_word (extending self.old cell left first t) answer ≡ extending self.new cell left first t }
         ensures same { (t : Attempt) → IsExtending self.old t → IsExtending self.new t }
-        ensures evidence { IfSome (end_of_extension self.new) (ExtensionShows self.old.own) }
         ensures falls { looks_left self.new (length (N.notes notes.now)) < looks_left self.old (length (N.notes notes.now)) }
     {
         let count = notes.len();
@@ -88,11 +89,7 @@ impl ExtendOp {
                 if found.still_has(self.own, note.version) {
                     self.go_on(clock, index + 1, count);
                 } else {
-                    self.place = ExtendPlace::Ended(ExtendEnd::Bad(Cause::Stale {
-                        addr: note.addr,
-                        version: note.version,
-                        meta: found,
-                    }));
+                    self.place = ExtendPlace::Ended(ExtendEnd::Bad(note.stale(found)));
                 }
             }
             ExtendPlace::Ended(_) => {}
@@ -106,7 +103,6 @@ impl ExtendOp {
         ensures after { (t : Attempt) (cell left : ℕ) (first : Meta) → length t.notes ≡ count →
             extend_on t cell left first clock (drop index t.notes) ≡ extending self.new cell left first t }
         ensures own { self.new.own ≡ self.old.own }
-        ensures evidence { IfSome (end_of_extension self.new) (ExtensionShows self.old.own) }
         ensures looks { looks_left self.new count ≡ count - index }
     {
         self.place = if index < count {

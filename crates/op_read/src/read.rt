@@ -4,11 +4,10 @@ ghost use Rattle.std.specs.Prelude.{◌≡◌, ◌<◌, ◌≤◌, ◌+◌, ◌*
 ghost use Rattle.stm_model.specs.Accesses.{next_access};
 ghost use Rattle.stm_model.specs.After.{after_word, at, read_again, meta_read, validated};
 ghost use Rattle.stm_model.specs.Attempt.{Attempt, ReadValue, ReadMeta};
-ghost use Rattle.stm_model.specs.Evidence.{IsEvident};
 ghost use Rattle.meta_word.specs.declared.meta.Meta.{Meta};
 ghost use Rattle.op_read.specs.declared.read.ReadEnd.TheVariants.{NeedExtension};
 ghost use Rattle.op_read.specs.declared.read.ReadPlace.TheVariants as at_read;
-ghost use Rattle.op_read.specs.Read.{EndShows, IsLoad, IsQuiet, IsReading, IsToExtend, accesses_left, end_of_read, reading};
+ghost use Rattle.op_read.specs.Read.{IsLoad, IsReading, IsToExtend, accesses_left, end_of_read, reading};
 
 use meta_word::unpack_meta;
 use stm_model::{Access, Addr, Cause, Meta, Notes, Word};
@@ -24,7 +23,7 @@ pub enum ReadEnd {
 }
 
 /// Where a read stands.
-#[derive(Clone, Copy, Debug, PartialEq, Eq)]
+#[derive(Clone, Copy)]
 pub enum ReadPlace {
     ReadMeta,
     ReadValue { first: Meta },
@@ -33,7 +32,7 @@ pub enum ReadPlace {
 }
 
 /// The read of a cell that is neither buffered nor noted.
-#[derive(Clone, Copy, Debug, PartialEq, Eq)]
+#[derive(Clone, Copy)]
 pub struct ReadOp {
     pub addr: Addr,
     /// The number of the caller that reads.
@@ -51,7 +50,6 @@ impl ReadOp {
         ensures cell { result.addr ≡ addr }
         ensures going { end_of_read result ≡ None }
         ensures for_attempt { (t : Attempt) → t.own ≡ own → t.prefix ≡ prefix → IsReading result t }
-        ensures quiet { IsQuiet result }
         ensures bound { (reads : ℕ) → accesses_left result reads ≤ (looks + 1) * (4 + reads) }
     {
         ReadOp {
@@ -86,8 +84,6 @@ impl ReadOp {
         ensures after { (t : Attempt) → t.due ≡ [] → IsReading self.old t → after_word (reading self.old t) answer ≡ reading self.new t }
         ensures cell { self.new.addr ≡ self.old.addr }
         ensures same { (t : Attempt) → IsReading self.old t → IsReading self.new t }
-        ensures quiet { IsQuiet self.old → IsQuiet self.new }
-        ensures evidence { IsQuiet self.old → IfSome (end_of_read self.new) (EndShows self.old.own) }
         ensures falls { (reads : ℕ) → accesses_left self.new reads < accesses_left self.old reads }
     {
         match self.place {
@@ -106,14 +102,12 @@ impl ReadOp {
     }
 
     // A first look showed this.
-    #[tactic(auto, unfolding(stm_model::specs::After::meta_read, stm_model::specs::Evidence::Evidence))]
+    #[tactic(auto, unfolding(stm_model::specs::After::meta_read))]
     fn look(&mut self, first: Meta)
         requires { self.old.place ≡ at_read.ReadMeta }
         ensures after { (t : Attempt) → IsReading self.old t → meta_read t self.old.addr.0 self.old.left first ≡ reading self.new t }
         ensures cell { self.new.addr ≡ self.old.addr }
         ensures same { (t : Attempt) → IsReading self.old t → IsReading self.new t }
-        ensures quiet { IsQuiet self.old → IsQuiet self.new }
-        ensures evidence { IsQuiet self.old → IfSome (end_of_read self.new) (EndShows self.old.own) }
         ensures falls { (reads : ℕ) → accesses_left self.new reads < accesses_left self.old reads }
     {
         if first.is_changing_by_another(self.own) {
@@ -129,14 +123,12 @@ impl ReadOp {
     }
 
     // A second look showed this.
-    #[tactic(auto, using(stm_model::proofs::EvidenceLemmas::has_moved), unfolding(stm_model::specs::After::validated, stm_model::specs::Evidence::Evidence))]
+    #[tactic(auto, unfolding(stm_model::specs::After::validated))]
     fn look_twice(&mut self, first: Meta, value: u64, second: Meta)
         requires { self.old.place ≡ at_read.Validate first value }
         ensures after { (t : Attempt) → IsReading self.old t → validated t self.old.addr.0 self.old.left first value second ≡ reading self.new t }
         ensures cell { self.new.addr ≡ self.old.addr }
         ensures same { (t : Attempt) → IsReading self.old t → IsReading self.new t }
-        ensures quiet { IsQuiet self.old → IsQuiet self.new }
-        ensures evidence { IsQuiet self.old → IfSome (end_of_read self.new) (EndShows self.old.own) }
         ensures falls { (reads : ℕ) → accesses_left self.new reads < accesses_left self.old reads }
     {
         if second.still_has(self.own, first.version) {
@@ -158,8 +150,6 @@ impl ReadOp {
         ensures after { (t : Attempt) → read_again t self.old.addr.0 self.old.left cause ≡ reading self.new t }
         ensures cell { self.new.addr ≡ self.old.addr }
         ensures same { (t : Attempt) → IsReading self.old t → IsReading self.new t }
-        ensures quiet { IsQuiet self.new }
-        ensures evidence { IsEvident self.old.own cause → IfSome (end_of_read self.new) (EndShows self.old.own) }
         ensures falls { (reads : ℕ) → accesses_left self.new reads ≤ self.old.left * (4 + reads) }
     {
         if self.left == 0 {
@@ -178,7 +168,6 @@ impl ReadOp {
         ensures cell { self.new.addr ≡ self.old.addr }
         ensures going { end_of_read self.new ≡ None }
         ensures for_attempt { (t : Attempt) → t.own ≡ self.old.own → t.prefix ≡ prefix → IsReading self.new t }
-        ensures quiet { IsQuiet self.old → IsQuiet self.new }
         ensures falls { (reads : ℕ) → accesses_left self.new reads + 1 + reads ≤ accesses_left self.old reads }
     {
         self.prefix = prefix;

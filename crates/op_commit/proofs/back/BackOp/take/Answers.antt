@@ -13,5 +13,5 @@ returns-in-Cell-clause-after g c = λ t nothing backs same.
     let rung = c.cell_to_ring-self.result in
     let dues = due_at c.back_from-self.result op.whole rung t in
     let ring : dues ≡ ring_if (meta_of c.args.answer).pending c.at.result.addr.0 = rw (← c.unpack_meta.ensures.fields) (c.back_from-self.ensures.due t rung ∙ c.cell_to_ring-self.ensures) in
-    rw c.in-Cell.is (goes-back t op.first c.in-Cell.index c.at.result (rw same at c.at.ensures) op.whole c.args.answer dues nothing ring
+    rw c.in-Cell.is (goes-back t c.in-Cell.index c.at.result (rw same at c.at.ensures) op.whole c.args.answer dues nothing ring
     ∙ c.back_from-self.ensures.stands (record t { due = dues }) count)

@@ -77,4 +77,4 @@ returns-else-still_has-clause-after g c = λ t nothing commits same.
     let behind : length t.now.writes ≤ index = rw commits.writes place.0 in
     let here = rw commits.writes at (drop-read t.now.writes t.notes index note behind (rw same at c.at-note.ensures)) in
     let stale : still_has t.own note.version (meta_of c.args.answer) ≡ false = rw (commits.own, sym c.unpack_meta-found.ensures.fields) (sym c.still_has.ensures ∙ c.if-still_has.false) in
-    rw (c.in-CommitNote.is, c.stale-self.ensures, c.unpack_meta-found.ensures.fields) (ends-stale t nothing c.in-CommitNote.lost c.in-CommitNote.clock index op.writes note here c.args.answer stale)
+    rw (c.in-CommitNote.is, c.refused-self.ensures, c.stale.ensures, c.unpack_meta-found.ensures.fields) (ends-stale t nothing c.in-CommitNote.lost c.in-CommitNote.clock index op.writes note here c.args.answer stale)

@@ -12,4 +12,4 @@ returns-then-still_has-clause-after g c = λ t cell left first nothing same read
 pub returns-else-still_has-clause-after : goal.returns-else-still_has-clause-after
 returns-else-still_has-clause-after g c = λ t cell left first nothing same reads.
     let stale : still_has t.own c.at-note.result.version (meta_of c.args.answer) ≡ false = rw (reads.own, sym c.unpack_meta-found.ensures.fields) (sym c.still_has.ensures ∙ c.if-still_has.false) in
-    rw c.in-ExtendNote.is (rw c.unpack_meta-found.ensures.fields (ends-stale t cell left first c.in-ExtendNote.clock c.in-ExtendNote.index c.at-note.result (rw same c.at-note.ensures) c.args.answer nothing stale))
+    rw c.in-ExtendNote.is (rw (c.stale.ensures, c.unpack_meta-found.ensures.fields) (ends-stale t cell left first c.in-ExtendNote.clock c.in-ExtendNote.index c.at-note.result (rw same c.at-note.ensures) c.args.answer nothing stale))
