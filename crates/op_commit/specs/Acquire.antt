@@ -1,9 +1,8 @@
 -- The first write of a cell as a part of an attempt.
-use Rattle.std.specs.Prelude.{◌≡◌, ℕ, ◌+◌, ◌-◌, ◌*◌, ◌^◌, ◌<◌, ◌≤◌, true, Bool, if◌then◌else◌, Option, Some, None}
-use Rattle.meta_word.specs.Meta.{MetaFits, owned_by_another}
+use Rattle.std.specs.Prelude.{◌≡◌, ℕ, ◌+◌, ◌-◌, ◌*◌, ◌^◌, ◌<◌, ◌≤◌, true, Bool, Option, Some, None}
+use Rattle.meta_word.specs.Meta.{MetaFits}
 use Rattle.meta_word.specs.Policy.{looks}
 use Rattle.meta_word.specs.Status.{StatusFits}
-use Rattle.meta_word.specs.declared.meta.Meta.{Meta}
 use Rattle.meta_word.specs.declared.meta.TheConstants.{MAX_OWNER}
 use Rattle.op_commit.specs.declared.acquire.AcquireEnd.{AcquireEnd}
 use Rattle.op_commit.specs.declared.acquire.AcquireEnd.TheVariants.{Bad, Owned}
@@ -11,7 +10,7 @@ use Rattle.op_commit.specs.declared.acquire.AcquireOp.{AcquireOp}
 use Rattle.op_commit.specs.declared.acquire.AcquirePlace.{AcquirePlace}
 use Rattle.op_commit.specs.declared.acquire.AcquirePlace.TheVariants as at_acquire
 use Rattle.stm_model.specs.declared.note.Note.{Note}
-use Rattle.stm_model.specs.After.{at, done, note_of, stopped, acquire_again, doom_or_again}
+use Rattle.stm_model.specs.After.{at, done, note_of, stopped}
 use Rattle.stm_model.specs.Attempt.{AcquireMeta, Attempt, DoomOwner, Acquire, OwnerMeta, OwnerStatus}
 use Rattle.stm_model.specs.Heap.{put}
 
@@ -57,7 +56,7 @@ WordFits (at_acquire.OwnerMeta first status) = StatusFits status
 WordFits (at_acquire.DoomOwner first second status) = StatusFits status
 WordFits _ = Unit {0}
 
--- A doom counts as tried from the look at the owner on.
+-- A doom counts as tried from the load of the owner's status on.
 abbrev pub IsCounted : AcquirePlace → (tried : Bool) → Type 0
 IsCounted (at_acquire.OwnerStatus first) tried = tried ≡ true
 IsCounted (at_acquire.OwnerMeta first status) tried = tried ≡ true
@@ -78,13 +77,6 @@ end_at _ = None
 
 abbrev pub end_of_acquire : AcquireOp → Option AcquireEnd
 end_of_acquire op = end_at op.place
-
--- Somebody owns the cell: another, or the caller itself.
-abbrev pub met : Attempt → (cell value left : ℕ) → (tried : Bool) → Meta → Attempt
-met t cell value left tried first =
-    if owned_by_another t.own first
-    then doom_or_again t cell value left tried first
-    else acquire_again t cell value left tried first first
 
 -- how many accesses may follow, with so many rounds behind this one
 abbrev pub left_at : AcquirePlace → ℕ → ℕ

@@ -1,4 +1,4 @@
--- The way back of an attempt: a level is undone, or the attempt is rolled back, or it ends and has written nothing.
+-- The release of a level, or the rollback of an attempt, or its end where it has written nothing.
 use Rattle.std.specs.Prelude.{◌≡◌, ℕ, ◌+◌, ◌-◌, ◌<◌, ◌≤◌, Bool, true, false, if◌then◌else◌, List, [], ◌∷◌, ◌++◌, length, drop, Option, Some, None}
 use Rattle.meta_word.specs.declared.status.Phase.TheVariants.{Idle}
 use Rattle.meta_word.specs.declared.status.TheConstants.{MAX_SERIAL}
@@ -24,7 +24,7 @@ backing_at (at_back.Cell index) false t = release_level_on t (former_writes t.sa
 backing_at (at_back.Ended end) true t = at (record t { phase = Idle }) Ended
 backing_at (at_back.Ended end) false t = release_level_on t (former_writes t.saved) []
 
--- the attempt that this one is while the way back stands so
+-- the attempt that this one is while it stands so
 abbrev pub backing : BackOp → Attempt → Attempt
 backing op = backing_at op.place op.whole
 
@@ -36,7 +36,7 @@ due_at place whole rung t = ring_for rung
 abbrev pub due_by : BackOp → Attempt → List Due
 due_by op t = due_at op.place op.whole op.rung t
 
--- The way back is made for this attempt.
+-- It is made for this attempt.
 pub record IsBacking (op : BackOp) (t : Attempt) : Type 0 where
   pub own : t.own ≡ op.own
   pub serial : t.serial ≡ op.serial

@@ -117,7 +117,7 @@ end_of_commit op = end_at op.place
 
 -- ---- how many accesses may follow, over so many notes
 
--- of so many rounds that each load the clock, check the reads and try for the clock
+-- of so many rounds that each load the clock, validate the notes and try for the clock
 abbrev pub rounds : (count writes reads : ℕ) → ℕ
 rounds count writes reads = count * (reads + 2) + (2 * writes + 1)
 

@@ -1,6 +1,6 @@
-//! The commit of a writer: its status and a mark on each cell, a check of what it read at a clock, the
-//! exchange of that clock, which is the decision, and then the values and the release of each cell. It
-//! stops where handlers are to be run.
+//! The commit of a writer: its status is exchanged and each cell marked, what it read is validated at a clock,
+//! and the exchange of that clock is the decision. Then the values are stored and the cells released. It stops
+//! where handlers are to be run.
 ghost use Rattle.std.specs.Prelude.{◌≡◌, ◌<◌, ◌≤◌, ◌+◌, ◌-◌, ◌*◌, [], ℕ, List, Option, IsNone, IsSome, None, drop, length};
 ghost use Rattle.meta_word.specs.Meta.{meta_word};
 ghost use Rattle.meta_word.specs.Status.{status_word};
@@ -14,6 +14,7 @@ ghost use Rattle.stm_model.specs.Accesses.{active, next_access, released};
 ghost use Rattle.stm_model.specs.After.{after_word, at, validate_on, decided, mark_on, prepared, release_on, store_on};
 ghost use Rattle.stm_model.specs.Attempt.{Attempt, Prepare};
 ghost use Rattle.op_commit.specs.Commit.{ClockFits, IsAlong, IsCommitting, IsInPlace, IsStop, accesses_left, committing, committing_at, due_at, due_by, end_at, end_of_commit, in_preparation, left_at, notes_to_commit, rounds, stamped};
+ghost use Rattle.op_commit.specs.CommitParts.{ComesTo};
 ghost use Rattle.op_commit.specs.Buffered.{ring_for};
 ghost use Rattle.op_commit.specs.declared.commit.CommitEnd.TheVariants.{Bad};
 ghost use Rattle.stm_model.specs.declared.cause.Addr.{Addr};
@@ -169,13 +170,13 @@ impl CommitOp {
             CommitPlace::Prepare => self.place = self.after_prepare(unpack_status(answer)),
             CommitPlace::Mark { index } => self.place = self.mark_from(index + 1),
             CommitPlace::CommitClock { lost } => {
-                self.place = self.check_from(lost, answer, self.writes, count);
+                self.place = self.validate_from(lost, answer, self.writes, count);
             }
             CommitPlace::CommitNote { lost, clock, index } => {
                 let note = notes.at(index);
                 let found = unpack_meta(answer);
                 if found.still_has(self.own, note.version) {
-                    self.place = self.check_from(lost, clock, index + 1, count);
+                    self.place = self.validate_from(lost, clock, index + 1, count);
                 } else {
                     self.place = refused(note.stale(found));
                 }
@@ -201,7 +202,7 @@ impl CommitOp {
     // The exchange of its status found this.
     #[tactic(auto, unfolding(stm_model::specs::After::prepared))]
     fn after_prepare(&self, found: TxnStatus) -> CommitPlace
-        ensures stands { (t : Attempt) → t.due ≡ [] → IsCommitting self.now t →
+        ensures shows { (t : Attempt) → t.due ≡ [] → IsCommitting self.now t →
             prepared t found ≡ committing_at result self.now.writes (record t { due = due_at result None t }) }
         ensures in_place { (count : ℕ) → IsInPlace result self.now.writes self.now.limit count }
         ensures left { (reads : ℕ) → left_at result self.now.writes self.now.tries reads ≤ self.now.writes + rounds (self.now.tries + 1) self.now.writes reads }
@@ -216,9 +217,7 @@ impl CommitOp {
     // The cells before this index are marked.
     fn mark_from(&self, index: usize) -> CommitPlace
         requires { index ≤ self.now.writes }
-        ensures stands { (t : Attempt) → IsCommitting self.now t →
-            mark_on (in_preparation t) (drop index t.now.writes) ≡ committing_at result self.now.writes t }
-        ensures due { (t : Attempt) → due_at result None t ≡ [] }
+        ensures comes { ComesTo self.now result (λ t. mark_on (in_preparation t) (drop index t.now.writes)) }
         ensures going { IsNone (end_at result) }
         ensures in_place { (count : ℕ) → IsInPlace result self.now.writes self.now.limit count }
         ensures left { (reads : ℕ) → left_at result self.now.writes self.now.tries reads ≡ left_at (at_commit.Mark index) self.now.writes self.now.tries reads }
@@ -232,11 +231,11 @@ impl CommitOp {
 
     // Of so many notes, those before this index hold good at the clock.
     #[tactic(auto, unfolding(stm_model::specs::After::validate_on))]
-    fn check_from(&self, lost: u16, clock: u64, index: usize, count: usize) -> CommitPlace
+    fn validate_from(&self, lost: u16, clock: u64, index: usize, count: usize) -> CommitPlace
         requires behind { self.now.writes ≤ index }
         requires within { index ≤ count }
         requires clock { clock ≤ self.now.limit }
-        ensures stands { (t : Attempt) → IsCommitting self.now t → count ≡ self.now.writes + length t.notes →
+        ensures shows { (t : Attempt) → IsCommitting self.now t → count ≡ self.now.writes + length t.notes →
             validate_on (in_preparation t) lost clock (drop (index - self.now.writes) t.notes) ≡ committing_at result self.now.writes t }
         ensures due { (t : Attempt) → due_at result None t ≡ [] }
         ensures in_place { IsInPlace result self.now.writes self.now.limit count }
@@ -259,7 +258,7 @@ impl CommitOp {
     #[tactic(auto, unfolding(stm_model::specs::After::decided))]
     fn after_decide(&self, lost: u16, clock: u64, found: u64) -> CommitPlace
         requires { clock < self.now.limit }
-        ensures stands { (t : Attempt) → t.due ≡ [] → IsCommitting self.now t →
+        ensures shows { (t : Attempt) → t.due ≡ [] → IsCommitting self.now t →
             decided (in_preparation t) lost clock found ≡ committing_at result self.now.writes (record t { due = due_at result None t }) }
         ensures in_place { (count : ℕ) → IsInPlace result self.now.writes self.now.limit count }
         ensures left { (reads : ℕ) → left_at result self.now.writes self.now.tries reads ≤ rounds (self.now.tries - lost) self.now.writes reads }
@@ -279,9 +278,7 @@ impl CommitOp {
     // The values before this index are stored.
     fn store_from(&self, stamp: u64, index: usize) -> CommitPlace
         requires { index ≤ self.now.writes }
-        ensures stands { (t : Attempt) → IsCommitting self.now t →
-            store_on (stamped t stamp) (drop index t.now.writes) ≡ committing_at result self.now.writes t }
-        ensures due { (t : Attempt) → due_at result None t ≡ [] }
+        ensures comes { ComesTo self.now result (λ t. store_on (stamped t stamp) (drop index t.now.writes)) }
         ensures going { IsNone (end_at result) }
         ensures in_place { stamp ≤ self.now.limit → (count : ℕ) → IsInPlace result self.now.writes self.now.limit count }
         ensures left { (reads : ℕ) → left_at result self.now.writes self.now.tries reads ≡ left_at (at_commit.StoreValues stamp index) self.now.writes self.now.tries reads }
@@ -296,9 +293,7 @@ impl CommitOp {
     // The cells before this index are released.
     fn release_from(&self, stamp: u64, index: usize) -> CommitPlace
         requires { index ≤ self.now.writes }
-        ensures stands { (t : Attempt) → IsCommitting self.now t →
-            release_on (stamped t stamp) (drop index t.now.writes) ≡ committing_at result self.now.writes t }
-        ensures due { (t : Attempt) (rung : Option Addr) → due_at result rung t ≡ ring_for rung }
+        ensures comes { ComesTo self.now result (λ t. release_on (stamped t stamp) (drop index t.now.writes)) }
         ensures going { IsNone (end_at result) }
         ensures in_place { stamp ≤ self.now.limit → (count : ℕ) → IsInPlace result self.now.writes self.now.limit count }
         ensures left { (reads : ℕ) → left_at result self.now.writes self.now.tries reads ≡ left_at (at_commit.Release stamp index) self.now.writes self.now.tries reads }
@@ -313,7 +308,7 @@ impl CommitOp {
     /// Goes on after the handlers of a stop have run.
     pub fn resume(&mut self)
         requires stop { IsStop self.old.place }
-        ensures stands { (t : Attempt) → IsCommitting self.old t → committing self.new t ≡ committing self.old t }
+        ensures shows { (t : Attempt) → IsCommitting self.old t → committing self.new t ≡ committing self.old t }
         ensures going { IsNone (end_of_commit self.new) }
         ensures rings { self.new.rung ≡ self.old.rung }
         ensures same { (t : Attempt) → IsCommitting self.old t → IsCommitting self.new t }

@@ -40,10 +40,10 @@ abbrev pub end_of_extension : ExtendOp → Option ExtendEnd
 end_of_extension op = end_at op.place
 
 -- how many accesses follow at most, over so many notes
-abbrev pub looks_left_at : ExtendPlace → ℕ → ℕ
-looks_left_at at_extend.ExtendClock reads = 1 + reads
-looks_left_at (at_extend.ExtendNote clock index) reads = reads - index
-looks_left_at (at_extend.Ended end) reads = 0
+abbrev pub accesses_left_at : ExtendPlace → ℕ → ℕ
+accesses_left_at at_extend.ExtendClock reads = 1 + reads
+accesses_left_at (at_extend.ExtendNote clock index) reads = reads - index
+accesses_left_at (at_extend.Ended end) reads = 0
 
-abbrev pub looks_left : ExtendOp → ℕ → ℕ
-looks_left op = looks_left_at op.place
+abbrev pub accesses_left : ExtendOp → ℕ → ℕ
+accesses_left op = accesses_left_at op.place
