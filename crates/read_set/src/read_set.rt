@@ -75,6 +75,13 @@ impl ReadSet {
         self.notes.len()
     }
 
+    /// How many additions more take no memory.
+    pub fn spare(&self) -> usize
+        ensures { result ≡ self.now.spare }
+    {
+        self.notes.capacity().saturating_sub(self.notes.len())
+    }
+
     /// Takes memory for so many additions more, where they aren't spare already.
     pub fn reserve(&mut self, more: usize) -> Result<(), Memory>
         ensures same { self.new.notes ≡ self.old.notes }

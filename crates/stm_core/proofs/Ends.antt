@@ -1,7 +1,7 @@
 -- What an operation shows once it has ended.
 use Rattle.std.proofs.Common.{◌≡◌, ℕ, true, List, [], ◌++◌, Option, Some, None, refl, sym, ap, ◌∙◌, subst, append-nil}
-use Rattle.op_commit.specs.Acquire as first_write
-use Rattle.op_commit.specs.Back as way_back
+use Rattle.op_commit.specs.Acquire as acquire
+use Rattle.op_commit.specs.Back as rollback
 use Rattle.op_commit.specs.Commit as commit
 use Rattle.op_commit.specs.declared.acquire.AcquireEnd.{AcquireEnd}
 use Rattle.op_commit.specs.declared.acquire.AcquirePlace.{AcquirePlace}
@@ -38,23 +38,26 @@ pub extension_over : (place : ExtendPlace) (end : ExtendEnd) → extension.end_a
 extension_over (at_extend.Ended other) end over = cc over
 extension_over _ end over = cc over
 
-pub write_over : (place : AcquirePlace) (end : AcquireEnd) → first_write.end_at place ≡ Some end → place ≡ at_acquire.Ended end
-write_over (at_acquire.Ended other) end over = cc over
-write_over _ end over = cc over
+pub acquire_over : (place : AcquirePlace) (end : AcquireEnd) → acquire.end_at place ≡ Some end → place ≡ at_acquire.Ended end
+acquire_over (at_acquire.Ended other) end over = cc over
+acquire_over _ end over = cc over
 
 pub commit_over : (place : CommitPlace) (end : CommitEnd) → commit.end_at place ≡ Some end → place ≡ at_commit.Ended end
 commit_over (at_commit.Ended other) end over = cc over
 commit_over _ end over = cc over
 
-pub back_over : (place : BackPlace) (end : BackEnd) → way_back.end_at place ≡ Some end → place ≡ at_back.Ended end
+pub back_over : (place : BackPlace) (end : BackEnd) → rollback.end_at place ≡ Some end → place ≡ at_back.Ended end
 back_over (at_back.Ended other) end over = cc over
 back_over _ end over = cc over
 
--- What is due is none of a commit's concern, nor of a way back's.
+-- An operation that has ended is at its end.
+pub ruleset ends = (read_over, extension_over, acquire_over, commit_over, back_over)
+
+-- What is due is none of a commit's concern, nor of a rollback's.
 pub whatever_due : (op : CommitOp) (t : Attempt) (dues : List Due) → commit.IsCommitting op t → commit.IsCommitting op (record t { due = dues })
 whatever_due op t dues commits = record { own = commits.own; serial = commits.serial; tries = commits.tries; limit = commits.limit; writes = commits.writes }
 
-pub whatever_is_due : (op : BackOp) (t : Attempt) (dues : List Due) → way_back.IsBacking op t → way_back.IsBacking op (record t { due = dues })
+pub whatever_is_due : (op : BackOp) (t : Attempt) (dues : List Due) → rollback.IsBacking op t → rollback.IsBacking op (record t { due = dues })
 whatever_is_due op t dues backs = record { own = backs.own; serial = backs.serial }
 
 -- ---- no handlers
@@ -66,17 +69,17 @@ no_final_runs (Some (Committed stamp)) = refl
 no_final_runs (Some (ToRead prefix)) = refl
 no_final_runs (Some (Rolled cause prefix)) = refl
 
--- Where no handler is registered, a ring alone is due at the end of a way back.
+-- Where no handler is registered, a ring alone is due at the end of a rollback.
 due_at_end : (t : Attempt) (rung : Option Addr) → t.now.hooks ≡ [] → ring_for rung ++ run_all (final_runs t.ending t.now.hooks) ≡ ring_for rung
 due_at_end t rung none = ap (λ hooks. ring_for rung ++ run_all (final_runs t.ending hooks)) none ∙ ap (λ dues. ring_for rung ++ dues) (no_final_runs t.ending) ∙ append-nil (ring_for rung)
 
 back_ends_at : (first : ℕ) (rung : Option Addr) (t : Attempt) (end : BackEnd) → t.now.hooks ≡ [] →
-    way_back.backing_at (at_back.Ended end) first true (record t { due = way_back.due_at (at_back.Ended end) true rung t }) ≡ at (record t { phase = Idle; due = ring_for rung }) Ended
+    rollback.backing_at (at_back.Ended end) first true (record t { due = rollback.due_at (at_back.Ended end) true rung t }) ≡ at (record t { phase = Idle; due = ring_for rung }) Ended
 back_ends_at first rung t end none = ap (λ dues. at (record t { phase = Idle; due = dues }) Ended) (due_at_end t rung none)
 
 pub back_ends : (op : BackOp) (t : Attempt) (end : BackEnd) → op.place ≡ at_back.Ended end → op.whole ≡ true → t.now.hooks ≡ [] →
-    way_back.backing op (record t { due = way_back.due_by op t }) ≡ at (record t { phase = Idle; due = ring_for op.rung }) Ended
+    rollback.backing op (record t { due = rollback.due_by op t }) ≡ at (record t { phase = Idle; due = ring_for op.rung }) Ended
 back_ends op t end place whole none =
-    subst (λ p. way_back.backing_at p op.first op.whole (record t { due = way_back.due_at p op.whole op.rung t }) ≡ at (record t { phase = Idle; due = ring_for op.rung }) Ended) (sym place)
-    (subst (λ w. way_back.backing_at (at_back.Ended end) op.first w (record t { due = way_back.due_at (at_back.Ended end) w op.rung t }) ≡ at (record t { phase = Idle; due = ring_for op.rung }) Ended) (sym whole)
+    subst (λ p. rollback.backing_at p op.first op.whole (record t { due = rollback.due_at p op.whole op.rung t }) ≡ at (record t { phase = Idle; due = ring_for op.rung }) Ended) (sym place)
+    (subst (λ w. rollback.backing_at (at_back.Ended end) op.first w (record t { due = rollback.due_at (at_back.Ended end) w op.rung t }) ≡ at (record t { phase = Idle; due = ring_for op.rung }) Ended) (sym whole)
     (back_ends_at op.first op.rung t end none))

@@ -1,12 +1,17 @@
 -- An operation that goes on makes an access next.
-use Rattle.std.proofs.Common.{◌≡◌, false, IfSome, IsSome, Option, Some, None, [], refl, sym, ap, ◌∙◌, subst}
+use Rattle.std.proofs.Common.{◌≡◌, ℕ, false, IfSome, IsSome, Option, Some, None, [], refl, sym, ap, ◌∙◌, subst}
 use Rattle.op_commit.specs.Buffered.{ring_for}
 use Rattle.stm_core.proofs.Stands.{rests_at, stands}
 use Rattle.stm_core.specs.Machine.{after_due, made, named, next_of, standing}
-use Rattle.stm_core.specs.Running.{InvariantAt, base, attempt_at}
+use Rattle.stm_core.specs.Running.{IsSound, attempt_at, base, ready, shown}
 use Rattle.stm_core.specs.declared.next.Next.{Next}
+use Rattle.stm_core.specs.declared.next.Next.TheVariants as coming
+use Rattle.stm_core.specs.declared.next.Reply.{Reply}
 use Rattle.stm_core.specs.declared.running.Running.{Running}
 use Rattle.stm_core.specs.declared.running.State.{State}
+use Rattle.stm_core.specs.declared.running.State.TheVariants as in_state
+use Rattle.stm_model.specs.declared.cause.Cause.{Cause}
+use Rattle.stm_model.specs.declared.ending.Ending.{Ending}
 use Rattle.stm_model.specs.declared.access.Access.{Access}
 use Rattle.stm_model.specs.Accesses.{Act, next_access, next_at, packed, unless_due}
 use Rattle.stm_model.specs.Attempt.{Attempt, Ended, Late, Ready, Stage, Stopped}
@@ -30,9 +35,25 @@ makes t access result acts nothing same is =
     ap (λ d. after_due d (standing t t.stage)) nothing ∙ stands_by_act t t.stage acts
     ∙ from_act (next_at t t.stage) access result acts (same ∙ ap (λ d. packed (unless_due d (next_at t t.stage))) nothing) is
 
--- So it does wherever it stands, unless it rests.
-pub goes : (r : Running) (state : State) (access : Option Access) (result : Next) → InvariantAt r state → rests_at state ≡ false → r.due ≡ None →
-    access ≡ next_access (attempt_at (base r) state) → IfSome access (λ a. result ≡ named a) → next_of (attempt_at (base r) state) ≡ Some result
-goes r state access result holds going nothing =
-    let here = stands r (base r) state holds in
-    makes (attempt_at (base r) state) access result (here.acts going) (here.same.due ∙ ap ring_for nothing)
+-- So it does in each state, unless it rests.
+pub goes : (r : Running) (access : Option Access) (result : Next) → IsSound r → rests_at r.state ≡ false → r.due ≡ None →
+    access ≡ next_access (shown r) → IfSome access (λ a. result ≡ named a) → next_of (shown r) ≡ Some result
+goes r access result sound going nothing =
+    let here = stands r r.state sound.holds in
+    makes (shown r) access result (here.acts going) (here.same.due ∙ ap ring_for nothing)
+
+-- It goes on where it neither waits nor is over.
+pub goes_on : (state : State) → ((told : Option ℕ) → state ≡ in_state.Ready told → ⊥) → ((cause : Cause) → state ≡ in_state.Stopped cause → ⊥) → ((ending : Ending) → state ≡ in_state.Ended ending → ⊥) →
+    rests_at state ≡ false
+goes_on (in_state.Ready told) ready stopped ended = absurd (ready told refl)
+goes_on (in_state.Stopped cause) ready stopped ended = absurd (stopped cause refl)
+goes_on (in_state.Ended ending) ready stopped ended = absurd (ended ending refl)
+goes_on state ready stopped ended = refl
+
+-- Where it was told something, it replies that.
+pub replies : (r : Running) (told : Option ℕ) (result : Reply) → r.state ≡ in_state.Ready told → r.due ≡ None → ((t : Attempt) → standing t (Ready told) ≡ Some (coming.Reply result)) →
+    next_of (shown r) ≡ Some (coming.Reply result)
+unfolding attempt_at after_due
+replies r told result is nothing stands =
+    subst (λ state. next_of (attempt_at (base r) state) ≡ Some (coming.Reply result)) (sym is)
+    (ap (λ due. after_due (ring_for due) (standing (ready r told) (Ready told))) nothing ∙ stands (ready r told))

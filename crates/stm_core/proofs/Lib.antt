@@ -2,6 +2,7 @@ pub mod Allowing
 pub mod Asking
 pub mod Ends
 pub mod Goes
+pub mod GoingOn
 pub mod Rings
 pub mod Room
 pub mod Shown

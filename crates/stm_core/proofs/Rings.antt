@@ -8,7 +8,7 @@ use Rattle.stm_core.specs.Running.{InvariantAt, IsSound, base, shown}
 use Rattle.stm_core.specs.declared.rung.Rung.{Rung}
 use Rattle.stm_core.specs.declared.running.Running.{Running}
 use Rattle.stm_core.specs.declared.running.State.{State}
-use Rattle.stm_core.specs.declared.running.State.TheVariants.{Back, Commit, Extend, Read, Write}
+use Rattle.stm_core.specs.declared.running.State.TheVariants.{Acquire, Commit, Extend, Read, RollBack}
 use Rattle.stm_model.specs.declared.cause.Addr.{Addr}
 use Rattle.stm_model.specs.Moves.{Does, did_first, moved}
 
@@ -23,30 +23,23 @@ rings_one r addr cells sound due added =
     let t = shown r in let alike = shown_alike r sound in
     let first : t.due ≡ ring_for (Some addr) = alike.due ∙ ap ring_for due in
     let before : t.rings ≡ cells_in r.rung = alike.rings in
-    (stands r (base r) r.state sound.holds).also [] (cells_in cells)
+    (stands r r.state sound.holds).also [] (cells_in cells)
     ∙ ap (λ list. with_rings t [] list) (added ∙ ap (λ list. list ++ addr.0 ∷ []) (sym before))
     ∙ sym (ap (λ dues. did_first t dues) first)
 
 holds_so : (r : Running) (cells : Rung) (state : State) → InvariantAt r state → InvariantAt (rung_in r cells) state
 unfolding InvariantAt
-holds_so r cells (Read op) holds = record { made_for = record { own = holds.made_for.own; prefix = holds.made_for.prefix }; going = holds.going; room = holds.room }
-holds_so r cells (Extend reading first op) holds = record {
-  made_for = record { own = holds.made_for.own };
-  going = holds.going;
-  along = holds.along;
-  own = holds.own;
-  waits = holds.waits;
-  room = holds.room;
-}
-holds_so r cells (Write op value) holds = record {
-  made_for = record { own = holds.made_for.own; policy = holds.made_for.policy; noted = holds.made_for.noted };
-  going = holds.going;
-  within = holds.within;
-  unwritten = holds.unwritten;
-  room = holds.room;
-}
-holds_so r cells (Commit op) holds = record { made_for = record { own = holds.made_for.own; serial = holds.made_for.serial; tries = holds.made_for.tries; limit = holds.made_for.limit; writes = holds.made_for.writes }; going = holds.going; along = holds.along }
-holds_so r cells (Back op ending prepared) holds = record { made_for = record { own = holds.made_for.own; serial = holds.made_for.serial }; going = holds.going; along = holds.along; whole = holds.whole }
+holds_so r cells (Read op) holds = (record { made_for = record { own = holds.0.made_for.own; prefix = holds.0.made_for.prefix }; room = holds.0.room }, holds.1)
+holds_so r cells (Extend reading first op) holds =
+    (record { made_for = record { own = holds.0.made_for.own }; along = holds.0.along; own = holds.0.own; waits = holds.0.waits; room = holds.0.room }, holds.1)
+holds_so r cells (Acquire op value) holds = (record {
+  made_for = record { own = holds.0.made_for.own; policy = holds.0.made_for.policy; noted = holds.0.made_for.noted };
+  within = holds.0.within;
+  unwritten = holds.0.unwritten;
+  room = holds.0.room;
+}, holds.1)
+holds_so r cells (Commit op) holds = (record { made_for = record { own = holds.0.made_for.own; serial = holds.0.made_for.serial; tries = holds.0.made_for.tries; limit = holds.0.made_for.limit; writes = holds.0.made_for.writes }; along = holds.0.along }, holds.1)
+holds_so r cells (RollBack op ending prepared) holds = (record { made_for = record { own = holds.0.made_for.own; serial = holds.0.made_for.serial }; along = holds.0.along; whole = holds.0.whole }, holds.1)
 holds_so r cells _ holds = holds
 
 pub holds_then : (r : Running) (cells : Rung) → IsSound r → IsSound (rung_in r cells)

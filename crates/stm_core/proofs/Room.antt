@@ -1,10 +1,10 @@
 -- More room changes nothing else.
 use Rattle.std.proofs.Common.{◌≡◌, ℕ, ◌≤◌, List, sym, subst, ap, ◌∙◌, arith}
 use Rattle.read_set.specs.Reads.{Reads}
-use Rattle.stm_core.specs.Running.{InvariantAt, IsSound, left_in, shown}
+use Rattle.stm_core.specs.Running.{HasRoomFor, InvariantAt, IsSound, left_in, shown}
 use Rattle.stm_core.specs.declared.running.Running.{Running}
 use Rattle.stm_core.specs.declared.running.State.{State}
-use Rattle.stm_core.specs.declared.running.State.TheVariants.{Announce, Back, Begin, Commit, Ended, Extend, Read, Ready, Stopped, Write}
+use Rattle.stm_core.specs.declared.running.State.TheVariants.{Acquire, Announce, Begin, Commit, Ended, Extend, Read, Ready, RollBack, Stopped}
 use Rattle.write_buffer.specs.Buffer.{Buffer}
 
 -- with this room, the rest being the same
@@ -15,24 +15,22 @@ module _ (r : Running) (spare cells rewrites : ℕ) (replaced : List (ℕ × ℕ
   abbrev roomier : Running
   roomier = with_room r (record { notes = r.footprint.reads.notes; spare = spare }) (record { writes = r.footprint.writes.writes; replaced = replaced; spare = cells; spare_rewrites = rewrites })
 
+  roomier_note : {cell : ℕ} → HasRoomFor r.footprint.reads cell → HasRoomFor roomier.footprint.reads cell
+  roomier_note room = record { unnoted = room.unnoted; room = omega (arith, more, room.room) }
+
   holds_still : (state : State) → InvariantAt r state → InvariantAt roomier state
   unfolding InvariantAt
   holds_still Announce holds = holds
   holds_still Begin holds = holds
   holds_still (Ready told) holds = holds
   holds_still (Stopped cause) holds = holds
-  holds_still (Read op) holds = record { made_for = holds.made_for; going = holds.going; room = record { unnoted = holds.room.unnoted; room = omega (arith, more, holds.room.room) } }
-  holds_still (Extend reading first op) holds = record {
-    made_for = holds.made_for;
-    going = holds.going;
-    along = holds.along;
-    own = holds.own;
-    waits = holds.waits;
-    room = record { unnoted = holds.room.unnoted; room = omega (arith, more, holds.room.room) };
-  }
-  holds_still (Write op value) holds = record { made_for = holds.made_for; going = holds.going; within = holds.within; unwritten = holds.unwritten; room = omega (arith, more_cells, holds.room) }
-  holds_still (Commit op) holds = record { made_for = holds.made_for; going = holds.going; along = holds.along }
-  holds_still (Back op ending prepared) holds = record { made_for = holds.made_for; going = holds.going; along = holds.along; whole = holds.whole }
+  holds_still (Read op) holds = (record { made_for = holds.0.made_for; room = roomier_note holds.0.room }, holds.1)
+  holds_still (Extend reading first op) holds =
+      (record { made_for = holds.0.made_for; along = holds.0.along; own = holds.0.own; waits = holds.0.waits; room = roomier_note holds.0.room }, holds.1)
+  holds_still (Acquire op value) holds =
+      (record { made_for = holds.0.made_for; within = holds.0.within; unwritten = holds.0.unwritten; room = omega (arith, more_cells, holds.0.room) }, holds.1)
+  holds_still (Commit op) holds = (record { made_for = holds.0.made_for; along = holds.0.along }, holds.1)
+  holds_still (RollBack op ending prepared) holds = (record { made_for = holds.0.made_for; along = holds.0.along; whole = holds.0.whole }, holds.1)
   holds_still (Ended ending) holds = holds
 
 -- With the same notes and writes and no less room it is as sound, and shows the same.

@@ -1,23 +1,27 @@
 -- What an attempt shows whatever it is in the middle of: what is due, what it has read and what it has written.
-use Rattle.std.proofs.Common.{◌≡◌, ◌^◌, IsSome, [], Option, Some, None, refl, sym, ap, ◌∙◌, subst}
+use Rattle.std.proofs.Common.{◌≡◌, ◌^◌, true, is_some, IsSome, [], Option, Some, None, refl, sym, ap, ◌∙◌, subst}
 use Rattle.op_commit.specs.Buffered.{ring_for}
 use Rattle.stm_core.proofs.Stands.{Same, stands}
 use Rattle.stm_core.specs.Running.{IsSound, KeepsNumbers, base, machine_of, shown, attempt_at}
 use Rattle.stm_core.specs.declared.running.Running.{Running}
-use Rattle.stm_core.specs.declared.running.State.TheVariants.{Ended}
+use Rattle.stm_core.specs.declared.running.State.TheVariants as in_state
 use Rattle.stm_core.specs.Machine.{IsAtRest, IsSameAttempt, Machine, after_due, next_of, standing}
 use Rattle.stm_core.specs.declared.next.Next.TheVariants as coming
 use Rattle.stm_model.specs.declared.cause.Addr.{Addr}
 use Rattle.stm_model.specs.declared.ending.Ending.{Ending}
-use Rattle.stm_model.specs.Accesses.{next, next_at, unless_due}
+use Rattle.stm_model.specs.Accesses.{next, next_access, next_at, packed, unless_due}
 use Rattle.stm_model.specs.declared.access.Ask.TheVariants.{Finish}
 use Rattle.stm_model.specs.Moves.{MayAsk}
 use Rattle.stm_model.specs.Attempt.{Attempt, held_at}
 
 pub shown_alike : (r : Running) → IsSound r → Same (base r) (shown r)
-shown_alike r sound = (stands r (base r) r.state sound.holds).same
+shown_alike r sound = (stands r r.state sound.holds).same
 
 -- ---- what is due comes first
+
+-- Where nothing is due, the access of its stage comes next.
+pub next_is : (t : Attempt) → t.due ≡ [] → next t ≡ next_at t t.stage
+next_is t nothing = ap (λ d. unless_due d (next_at t t.stage)) nothing
 
 due_first : (due : Option Addr) (t : Attempt) → t.due ≡ ring_for due → IsSome (next t) → due ≡ None
 due_first None t same some = refl
@@ -26,6 +30,14 @@ due_first (Some addr) t same some = absurd (cc (subst (λ d. IsSome (unless_due 
 -- Where an access comes next, nothing is due.
 pub nothing_due : (r : Running) → IsSound r → IsSome (next (shown r)) → r.due ≡ None
 nothing_due r sound some = due_first r.due (shown r) (shown_alike r sound).due some
+
+none_due : (due : Option Addr) (t : Attempt) → t.due ≡ ring_for due → is_some due ≡ true → next_access t ≡ None
+none_due None t same some = absurd (cc some)
+none_due (Some addr) t same some = ap (λ d. packed (unless_due d (next_at t t.stage))) same
+
+-- Where a cell is to be rung for, it makes no access.
+pub makes_none_due : (r : Running) → IsSound r → is_some r.due ≡ true → next_access (shown r) ≡ None
+makes_none_due r sound some = none_due r.due (shown r) (shown_alike r sound).due some
 
 -- What is due is rung for next.
 pub rings_first : (r : Running) (addr : Addr) → IsSound r → r.due ≡ Some addr → next_of (shown r) ≡ Some (coming.Ring addr)
@@ -42,9 +54,16 @@ nothing_due_at_rest r sound nothing = no_due r.due (shown r) (shown_alike r soun
 
 -- ---- how it ends
 
-pub at_rest : (r : Running) (ending : Ending) → r.state ≡ Ended ending → IsAtRest (shown r) ending
-unfolding attempt_at held_at
-at_rest r ending is = subst (λ state. IsAtRest (attempt_at (base r) state) ending) (sym is) (record { stage = refl; ends = refl; phase = refl; holds_none = λ cell. refl })
+pub at_rest : (r : Running) (ending : Ending) → r.state ≡ in_state.Ended ending → (shown r).due ≡ [] → IsAtRest (shown r) ending
+unfolding attempt_at held_at next_at
+at_rest r ending is = subst (λ state. (attempt_at (base r) state).due ≡ [] → IsAtRest (attempt_at (base r) state) ending) (sym is) (λ nothing. record {
+  stage = refl;
+  ends = refl;
+  phase = refl;
+  holds_none = λ cell. refl;
+  nothing_due = nothing;
+  makes_none = next_is (attempt_at (base r) (in_state.Ended ending)) nothing;
+})
 
 -- Whoever is asked for what it has, has it in its footprint.
 pub notes_shown : (r : Running) (m : Machine) → IsSound r → machine_of r ≡ m → r.footprint.reads.notes ≡ m.attempt.notes

@@ -1,5 +1,5 @@
 -- What an attempt as a machine is to its callers.
-use Rattle.std.specs.Prelude.{◌≡◌, ℕ, ◌+◌, ◌*◌, ◌<◌, ◌≤◌, ◌^◌, false, if◌then◌else◌, List, [], ◌∷◌, length, Option, Some, None}
+use Rattle.std.specs.Prelude.{◌≡◌, ◌≢◌, ℕ, ◌+◌, ◌*◌, ◌<◌, ◌≤◌, ◌^◌, false, if◌then◌else◌, IsFalse, IsSome, List, [], ◌∷◌, length, Option, Some, None}
 use Rattle.meta_word.specs.Policy.{looks}
 use Rattle.meta_word.specs.declared.meta.TheConstants.{MAX_VERSION}
 use Rattle.meta_word.specs.declared.status.Phase.TheVariants.{Idle}
@@ -9,13 +9,14 @@ use Rattle.stm_core.specs.declared.next.Reply.TheVariants as reply
 use Rattle.stm_model.specs.declared.access.Access.{Access}
 use Rattle.stm_model.specs.declared.access.Access.TheVariants.{Exchange, Load}
 use Rattle.stm_model.specs.declared.access.Ask.{Ask}
-use Rattle.stm_model.specs.declared.access.Ask.TheVariants.{Abandon, Finish, Get, Set}
+use Rattle.stm_model.specs.declared.access.Ask.TheVariants.{Abandon, Enter, Finish, Get, Hook, Later, Set, Undo}
 use Rattle.stm_model.specs.declared.access.Word.TheVariants.{Clock}
 use Rattle.stm_model.specs.declared.ending.Ending.{Ending}
 use Rattle.stm_model.specs.declared.settings.Settings.{Settings}
-use Rattle.stm_model.specs.Accesses.{Act, LoadClock, ExchangeClock, addr_of, next_at, packed}
+use Rattle.stm_model.specs.Accesses.{Act, LoadClock, ExchangeClock, access_of, addr_of, next, next_at, packed}
 use Rattle.stm_model.specs.Attempt.{Attempt, Due, Ended, Late, Ready, Ring, Run, Stage, Stopped, cause_at, holds, is_in_flight}
-use Rattle.stm_model.specs.Moves.{OutOfMemory, MayRunOut, moved}
+use Rattle.stm_model.specs.Heap.{writes_to}
+use Rattle.stm_model.specs.Moves.{AwaitsAsk, OutOfMemory, MayRunOut, moved}
 
 -- the attempt, how many accesses may follow before it replies, and how many first reads and first writes that aren't under way take no memory
 pub record Machine : Type 0 where
@@ -66,7 +67,7 @@ pub record SettingsFit (settings : Settings) : Type 0 where
   pub looks : looks settings.policy + 1 < 2 ^ 16
   pub clock : settings.clock ≤ MAX_VERSION
 
--- It takes these asks. Levels, handlers and bodies that are put off aren't built yet.
+-- It takes these asks. Levels, handlers and late bodies aren't built yet.
 unfoldable pub IsBuilt : Ask → Type 0
 IsBuilt (Get cell) = Unit {0}
 IsBuilt (Set cell value) = Unit {0}
@@ -80,33 +81,61 @@ ClockFits t (Some LoadClock) answer = answer ≤ t.settings.clock
 ClockFits t (Some (ExchangeClock old)) answer = answer ≤ t.settings.clock
 ClockFits t act answer = Unit {0}
 
--- ---- what it says of the calls that may follow
+-- It may be given this answer: it makes an access, and a clock that this finds is within the limit.
+pub record MayTake (t : Attempt) (answer : ℕ) : Type 0 where
+  pub going : IsSome (next t)
+  pub clock : ClockFits t (next t) answer
 
--- It makes an access, so it may be given an answer.
-unfoldable pub MakesAccess : Next → Type 0
-MakesAccess (coming.Access access) = Unit {0}
-MakesAccess (coming.Decide old) = Unit {0}
-MakesAccess next = ⊥
+-- ---- what it promises by what it does next
 
 -- the clock is what it finds
-unfoldable pub FindsClock : Next → Type 0
-FindsClock (coming.Access (Load Clock)) = Unit {0}
-FindsClock (coming.Decide old) = Unit {0}
-FindsClock next = ⊥
+abbrev pub FindsClock : Access → Type 0
+FindsClock (Load Clock) = Unit {0}
+FindsClock access = ⊥
 
--- Something is due, so it may be told that this was done.
-unfoldable pub IsDue : Next → Type 0
-IsDue (coming.Run phase token) = Unit {0}
-IsDue (coming.Ring addr) = Unit {0}
-IsDue next = ⊥
+-- This access comes next, and it isn't the exchange of the clock.
+pub record Makes (t : Attempt) (access : Access) : Type 0 where
+  pub act : Act
+  pub next : next t ≡ Some act
+  pub made : access_of act ≡ access
+  pub undecided : (old new : ℕ) → access ≢ Exchange Clock old new
+  pub takes : (answer : ℕ) → (FindsClock access → answer ≤ t.settings.clock) → MayTake t answer
 
--- It may be asked.
-unfoldable pub IsToBeAsked : Next → Type 0
-IsToBeAsked (coming.Before token) = Unit {0}
-IsToBeAsked (coming.Reply reply.Ready) = Unit {0}
-IsToBeAsked (coming.Reply (reply.Value value)) = Unit {0}
-IsToBeAsked (coming.Reply (reply.Stopped cause)) = Unit {0}
-IsToBeAsked next = ⊥
+-- The exchange of the clock from this value comes next, which is below the limit.
+pub record Decides (t : Attempt) (old : ℕ) : Type 0 where
+  pub next : next t ≡ Some (ExchangeClock old)
+  pub below : old < t.settings.clock
+  pub takes : (answer : ℕ) → answer ≤ t.settings.clock → MayTake t answer
+
+-- This is due, before all else.
+pub record IsDue (t : Attempt) (due : Due) : Type 0 where
+  pub behind : List Due
+  pub first : t.due ≡ due ∷ behind
+  pub some : 0 < length t.due
+
+-- It waits to be asked, and makes no access.
+pub record Waits (t : Attempt) : Type 0 where
+  pub awaits : AwaitsAsk t
+  pub makes_none : next t ≡ None
+
+-- It is over: it owns no cell and has marked none, its status is stored as idle, and nothing is due.
+pub record IsAtRest (t : Attempt) (ending : Ending) : Type 0 where
+  pub stage : t.stage ≡ Ended
+  pub ends : t.ending ≡ Some ending
+  pub phase : t.phase ≡ Idle
+  pub holds_none : (cell : ℕ) → holds t cell ≡ false
+  pub nothing_due : t.due ≡ []
+  pub makes_none : next t ≡ None
+
+-- What it says that it does next allows the call that this is for.
+abbrev pub Promises : Attempt → Next → Type 0
+Promises t (coming.Access access) = Makes t access
+Promises t (coming.Decide old) = Decides t old
+Promises t (coming.Run phase token) = IsDue t (Run phase token)
+Promises t (coming.Ring addr) = IsDue t (Ring addr.0)
+Promises t (coming.Before token) = Waits t × (t.stage ≡ Late token)
+Promises t (coming.Reply (reply.Ended ending)) = IsAtRest t ending
+Promises t (coming.Reply told) = Waits t
 
 -- ---- what doesn't change
 
@@ -124,14 +153,16 @@ pub record IsRefused (before : Attempt) (ask : Ask) (after : Attempt) : Type 0 w
   pub going : cause_at before.stage ≡ None
   pub stops : after ≡ moved before (OutOfMemory ask)
 
--- ---- how it ends
+-- The ask takes no memory where so many first reads and first writes are spare.
+abbrev pub TakesNoMemory : (reads writes : ℕ) → Attempt → Ask → Type 0
+TakesNoMemory reads writes t (Get cell) = 0 < reads
+TakesNoMemory reads writes t (Set cell value) = IsFalse (writes_to t.now.writes cell.0) × (0 < writes)
+TakesNoMemory reads writes t Enter = ⊥
+TakesNoMemory reads writes t (Hook phase token) = ⊥
+TakesNoMemory reads writes t (Later token) = ⊥
+TakesNoMemory reads writes t ask = Unit {0}
 
--- It is over: it owns no cell and has marked none, and its status is stored as idle.
-pub record IsAtRest (t : Attempt) (ending : Ending) : Type 0 where
-  pub stage : t.stage ≡ Ended
-  pub ends : t.ending ≡ Some ending
-  pub phase : t.phase ≡ Idle
-  pub holds_none : (cell : ℕ) → holds t cell ≡ false
+-- ---- an attempt in flight
 
 -- the attempt, unless it has ended
 abbrev pub in_flight : Attempt → Option Attempt
@@ -155,10 +186,11 @@ writes_asked ask = 0
 
 -- ---- how many accesses may follow an ask
 
--- A read looks as often as the policy grants, and each time it may extend over all notes. A first write looks as often. A commit marks, stores and releases each cell and looks at the notes as often as it tries for the clock, and may be rolled back after that. A rollback gives back each cell and stores the status.
+-- A read loads the meta word once more than the policy grants looks, and each time it may extend over all notes. A first write loads it as often. A commit marks, stores and releases each cell and validates the notes as often as it tries for the clock, and may be rolled back after that. A rollback releases each cell and stores the status, and a level that is undone releases at most each cell.
 unfoldable pub accesses_asked : Attempt → Ask → ℕ
 accesses_asked t (Get cell) = (looks t.settings.policy + 1) * (4 + length t.notes)
 accesses_asked t (Set cell value) = (looks t.settings.policy + 1) * 4
 accesses_asked t Finish = 3 * length t.now.writes + (t.settings.tries + 1) * (length t.notes + 2) + 2 + (length t.now.writes + 1)
 accesses_asked t (Abandon cause) = length t.now.writes + 1
+accesses_asked t Undo = length t.now.writes
 accesses_asked t ask = 0

@@ -1,11 +1,11 @@
 -- How an attempt is kept, and which attempt that shows.
-use Rattle.std.specs.Prelude.{◌≡◌, ℕ, ◌+◌, ◌-◌, ◌<◌, ◌≤◌, Bool, true, if◌then◌else◌, IsFalse, IsNone, ◌++◌, length, Some, None}
+use Rattle.std.specs.Prelude.{◌≡◌, ℕ, ◌+◌, ◌-◌, ◌<◌, ◌≤◌, ◌⊎◌, Bool, true, if◌then◌else◌, IsFalse, IsNone, ◌++◌, length, Option, Some, None}
 use Rattle.meta_word.specs.declared.meta.Meta.{Meta}
 use Rattle.meta_word.specs.declared.meta.TheConstants.{MAX_OWNER}
 use Rattle.meta_word.specs.declared.status.Phase.TheVariants.{Active, Idle, Preparing}
 use Rattle.meta_word.specs.declared.status.TheConstants.{MAX_SERIAL}
-use Rattle.op_commit.specs.Acquire as first_write
-use Rattle.op_commit.specs.Back as way_back
+use Rattle.op_commit.specs.Acquire as acquire
+use Rattle.op_commit.specs.Back as rollback
 use Rattle.op_commit.specs.Buffered.{buffered, ring_for}
 use Rattle.op_commit.specs.Commit as commit
 use Rattle.op_commit.specs.declared.acquire.AcquireOp.{AcquireOp}
@@ -17,17 +17,21 @@ use Rattle.op_read.specs.declared.extend.ExtendOp.{ExtendOp}
 use Rattle.op_read.specs.declared.read.ReadEnd.TheVariants.{NeedExtension}
 use Rattle.op_read.specs.declared.read.ReadOp.{ReadOp}
 use Rattle.read_set.specs.Reads.{Reads}
-use Rattle.stm_core.specs.Machine.{Machine, SettingsFit}
+use Rattle.stm_core.specs.Machine.{HasSpare, Machine, SettingsFit, TakesNoMemory, accesses_asked, reads_asked, writes_asked}
 use Rattle.stm_core.specs.Rung.{cells_in}
 use Rattle.stm_core.specs.declared.running.Running.{Running}
 use Rattle.stm_core.specs.declared.running.State.{State}
 use Rattle.stm_core.specs.declared.running.State.TheVariants as in_state
 use Rattle.stm_model.specs.declared.ending.Ending.{Ending}
 use Rattle.stm_model.specs.declared.settings.Settings.{Settings}
-use Rattle.stm_model.specs.After.{at, note_of}
+use Rattle.stm_model.specs.declared.access.Ask.{Ask}
+use Rattle.stm_model.specs.declared.cause.Cause.{Cause}
+use Rattle.stm_model.specs.declared.cause.Cause.TheVariants.{Memory}
+use Rattle.stm_model.specs.After.{after_word, at, note_of, stopped}
 use Rattle.stm_model.specs.Attempt.{Announce, Attempt, Begin, Ended, Ready, Stopped, no_attempt}
 use Rattle.stm_model.specs.CellsState.{empty_book}
 use Rattle.stm_model.specs.Heap.{writes_to}
+use Rattle.stm_model.specs.Moves.{MayRunOut, asked_going}
 
 -- ---- which attempt it shows
 
@@ -47,7 +51,7 @@ base r = record (no_attempt r.own r.settings) {
 abbrev pub closing : Attempt → Ending → (prepared : Bool) → Attempt
 closing t ending prepared = record t { ending = Some ending; phase = if prepared then Preparing else Active }
 
--- the attempt that stands so
+-- the attempt in this state
 unfoldable pub attempt_at : Attempt → State → Attempt
 attempt_at t in_state.Announce = at (record t { phase = Idle }) Announce
 attempt_at t in_state.Begin = at t Begin
@@ -55,9 +59,9 @@ attempt_at t (in_state.Ready told) = at t (Ready told)
 attempt_at t (in_state.Stopped cause) = at t (Stopped cause)
 attempt_at t (in_state.Read op) = read.reading op t
 attempt_at t (in_state.Extend reading first op) = extension.extending op reading.addr.0 reading.left first t
-attempt_at t (in_state.Write op value) = first_write.acquiring op value t
+attempt_at t (in_state.Acquire op value) = acquire.acquiring op value t
 attempt_at t (in_state.Commit op) = commit.committing op t
-attempt_at t (in_state.Back op ending prepared) = way_back.backing op (closing t ending prepared)
+attempt_at t (in_state.RollBack op ending prepared) = rollback.backing op (closing t ending prepared)
 attempt_at t (in_state.Ended ending) = at (record t { phase = Idle; ending = Some ending }) Ended
 
 abbrev pub shown : Running → Attempt
@@ -70,9 +74,9 @@ left_at in_state.Announce reads writes = 2
 left_at in_state.Begin reads writes = 1
 left_at (in_state.Read op) reads writes = read.accesses_left op reads
 left_at (in_state.Extend reading first op) reads writes = read.accesses_left reading reads - (1 + reads) + extension.looks_left op reads
-left_at (in_state.Write op value) reads writes = first_write.accesses_left op
+left_at (in_state.Acquire op value) reads writes = acquire.accesses_left op
 left_at (in_state.Commit op) reads writes = commit.accesses_left op reads + (writes + 1)
-left_at (in_state.Back op ending prepared) reads writes = way_back.accesses_left op writes
+left_at (in_state.RollBack op ending prepared) reads writes = rollback.accesses_left op writes
 left_at state reads writes = 0
 
 abbrev pub left_in : Running → ℕ
@@ -87,7 +91,7 @@ reads_under_way (in_state.Extend reading first op) = 1
 reads_under_way state = 0
 
 unfoldable pub writes_under_way : State → ℕ
-writes_under_way (in_state.Write op value) = 1
+writes_under_way (in_state.Acquire op value) = 1
 writes_under_way state = 0
 
 -- ---- what its callers see
@@ -107,44 +111,44 @@ pub record HasRoomFor (reads : Reads) (cell : ℕ) : Type 0 where
   pub unnoted : note_of reads.notes cell ≡ None
   pub room : 0 < reads.spare
 
+-- The read is made for it.
 pub record IsReading (r : Running) (op : ReadOp) : Type 0 where
   pub made_for : read.IsReading op (base r)
-  pub going : IsNone (read.end_of_read op)
   pub room : HasRoomFor r.footprint.reads op.addr.0
 
+-- The extension is made for it, and for a read that waits for it.
 pub record IsExtending (r : Running) (reading : ReadOp) (first : Meta) (op : ExtendOp) : Type 0 where
   pub made_for : extension.IsExtending op (base r)
-  pub going : IsNone (extension.end_of_extension op)
   pub along : extension.IsAlong op r.footprint.reads.notes
   pub own : reading.own ≡ r.own
   pub waits : read.end_of_read reading ≡ Some (NeedExtension first)
   pub room : HasRoomFor r.footprint.reads reading.addr.0
 
-pub record IsWriting (r : Running) (op : AcquireOp) : Type 0 where
-  pub made_for : first_write.IsAcquiring op (base r)
-  pub going : IsNone (first_write.end_of_acquire op)
-  pub within : first_write.IsWithin op
+-- The first write is made for it.
+pub record IsAcquiring (r : Running) (op : AcquireOp) : Type 0 where
+  pub made_for : acquire.IsAcquiring op (base r)
+  pub within : acquire.IsWithin op
   pub unwritten : IsFalse (writes_to r.footprint.writes.writes op.addr.0)
   pub room : 0 < r.footprint.writes.spare
 
+-- The commit is made for it.
 pub record IsCommitting (r : Running) (op : CommitOp) : Type 0 where
   pub made_for : commit.IsCommitting op (base r)
-  pub going : IsNone (commit.end_of_commit op)
   pub along : commit.IsAlong op (buffered r.footprint.writes.writes ++ r.footprint.reads.notes)
 
-pub record IsGoingBack (r : Running) (op : BackOp) : Type 0 where
-  pub made_for : way_back.IsBacking op (base r)
-  pub going : IsNone (way_back.end_of_back op)
-  pub along : way_back.IsAlong op (buffered r.footprint.writes.writes)
+-- The rollback is made for it, and is that of the whole attempt.
+pub record IsRollingBack (r : Running) (op : BackOp) : Type 0 where
+  pub made_for : rollback.IsBacking op (base r)
+  pub along : rollback.IsAlong op (buffered r.footprint.writes.writes)
   pub whole : op.whole ≡ true
 
--- what holds where it stands so
+-- What holds in this state: its operation is made for it, and goes on.
 unfoldable pub InvariantAt : Running → State → Type 0
-InvariantAt r (in_state.Read op) = IsReading r op
-InvariantAt r (in_state.Extend reading first op) = IsExtending r reading first op
-InvariantAt r (in_state.Write op value) = IsWriting r op
-InvariantAt r (in_state.Commit op) = IsCommitting r op
-InvariantAt r (in_state.Back op ending prepared) = IsGoingBack r op
+InvariantAt r (in_state.Read op) = IsReading r op × IsNone (read.end_of_read op)
+InvariantAt r (in_state.Extend reading first op) = IsExtending r reading first op × IsNone (extension.end_of_extension op)
+InvariantAt r (in_state.Acquire op value) = IsAcquiring r op × IsNone (acquire.end_of_acquire op)
+InvariantAt r (in_state.Commit op) = IsCommitting r op × IsNone (commit.end_of_commit op)
+InvariantAt r (in_state.RollBack op ending prepared) = IsRollingBack r op × IsNone (rollback.end_of_back op)
 InvariantAt r state = Unit {0}
 
 -- Its numbers have room in their words.
@@ -153,13 +157,69 @@ pub record NumbersFit (number serial : ℕ) (settings : Settings) : Type 0 where
   pub serials : serial ≤ MAX_SERIAL
   pub limits : SettingsFit settings
 
+-- Its numbers fit, and what it does is made for it.
+pub record IsSound (r : Running) : Type 0 where
+  pub fits : NumbersFit r.own r.serial r.settings
+  pub holds : InvariantAt r r.state
+
+-- ---- what a call finds and what it leaves
+
+-- Its numbers fit and nothing is due.
+pub record IsFree (r : Running) : Type 0 where
+  pub fits : NumbersFit r.own r.serial r.settings
+  pub nothing_due : r.due ≡ None
+
+-- So it is, and is in this state.
+pub record IsIn (state : State) (r : Running) : Type 0 where
+  pub fits : NumbersFit r.own r.serial r.settings
+  pub nothing_due : r.due ≡ None
+  pub holds : InvariantAt r state
+
 -- It stays that of its caller, with its number and its settings.
 pub record KeepsNumbers (before after : Running) : Type 0 where
   pub own : after.own ≡ before.own
   pub serial : after.serial ≡ before.serial
   pub settings : after.settings ≡ before.settings
 
--- Its numbers fit, and what it does is made for it.
-pub record IsSound (r : Running) : Type 0 where
-  pub fits : NumbersFit r.own r.serial r.settings
-  pub holds : InvariantAt r r.state
+-- It has become this attempt, which makes at most so many accesses before it replies.
+pub record Becomes (t : Attempt) (most : ℕ) (before after : Running) : Type 0 where
+  pub shows : shown after ≡ t
+  pub left : left_in after ≤ most
+  pub numbers : KeepsNumbers before after
+  pub sound : IsSound after
+
+-- What becomes of it in this state by the answer to its access.
+pub record Takes (state : State) (answer : ℕ) (before after : Running) : Type 0 where
+  pub shows : shown after ≡ after_word (attempt_at (base before) state) answer
+  pub falls : left_in after < left_at state (length before.footprint.reads.notes) (length before.footprint.writes.writes)
+  pub room : HasSpare (before.footprint.reads.spare - reads_under_way state) (before.footprint.writes.spare - writes_under_way state) (machine_of after)
+  pub numbers : KeepsNumbers before after
+  pub sound : IsSound after
+
+-- ---- asks
+
+-- the attempt, where it was told this and waits to be asked
+abbrev pub ready : Running → (told : Option ℕ) → Attempt
+ready r told = at (base r) (Ready told)
+
+-- the attempt, where it was refused something
+abbrev pub refused : Running → (cause : Cause) → Attempt
+refused r cause = at (base r) (Stopped cause)
+
+-- The ask is refused for want of memory, where it wants some.
+abbrev pub RunsOut : Attempt → Ask → (after : Attempt) → Type 0
+RunsOut t ask after = MayRunOut t ask × (after ≡ stopped t Memory)
+
+-- What an ask leaves: nothing is due, and of what was spare there is as much as the ask leaves.
+pub record IsAsked (ask : Ask) (before after : Running) : Type 0 where
+  pub left : left_in after ≤ accesses_asked (base before) ask
+  pub room : HasSpare (before.footprint.reads.spare - reads_asked ask) (before.footprint.writes.spare - writes_asked ask) (machine_of after)
+  pub nothing_due : after.due ≡ None
+  pub numbers : KeepsNumbers before after
+  pub sound : IsSound after
+
+-- What becomes of it by an ask that it waited for, whatever it was told before.
+pub record Answers (ask : Ask) (before after : Running) : Type 0 where
+  pub moves : (told : Option ℕ) → (shown after ≡ asked_going (ready before told) ask) ⊎ RunsOut (ready before told) ask (shown after)
+  pub takes : (told : Option ℕ) → TakesNoMemory before.footprint.reads.spare before.footprint.writes.spare (base before) ask → shown after ≡ asked_going (ready before told) ask
+  pub asked : IsAsked ask before after

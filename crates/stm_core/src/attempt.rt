@@ -1,19 +1,14 @@
 //! One attempt as a machine over accesses.
-ghost use Rattle.std.specs.Prelude.{◌≡◌, ◌<◌, ◌≤◌, ◌-◌, ◌^◌, ◌⊎◌, ℕ, IsSome, IsFalse, OnOk, Some, length};
+ghost use Rattle.std.specs.Prelude.{◌≡◌, ◌<◌, ◌≤◌, ◌-◌, ◌^◌, ◌⊎◌, [], IsOk, IsSome, OnOk, Some, length};
 ghost use Rattle.meta_word.specs.declared.meta.TheConstants.{MAX_OWNER};
 ghost use Rattle.meta_word.specs.declared.status.TheConstants.{MAX_SERIAL};
-ghost use Rattle.stm_core.specs.Machine.{ClockFits, FindsClock, HasSpare, IsAtRest, IsBuilt, IsDue, IsRefused, IsSameAttempt, IsToBeAsked, MakesAccess, SettingsFit, accesses_asked, next_of, reads_asked, writes_asked};
-ghost use Rattle.stm_core.specs.declared.next.Next.TheVariants as coming;
-ghost use Rattle.stm_core.specs.declared.next.Reply.TheVariants as reply;
+ghost use Rattle.stm_core.specs.Machine.{HasSpare, IsBuilt, IsRefused, IsSameAttempt, MayTake, Promises, SettingsFit, TakesNoMemory, accesses_asked, next_of, reads_asked, writes_asked};
 ghost use Rattle.stm_model.specs.Accesses.{next};
 ghost use Rattle.stm_model.specs.After.{after_word};
 ghost use Rattle.stm_model.specs.Attempt.{Announce, Ended, Stopped, no_attempt};
-ghost use Rattle.stm_model.specs.Heap.{writes_to};
 ghost use Rattle.stm_model.specs.Moves.{AwaitsAsk, Does, IsCall, MayAsk, Takes, moved};
-ghost use Rattle.stm_model.specs.declared.access.Ask.TheVariants.{Finish, Get, Set};
-ghost use Rattle.stm_model.specs.declared.cause.Addr.{Addr};
+ghost use Rattle.stm_model.specs.declared.access.Ask.TheVariants.{Finish};
 ghost use Rattle.stm_model.specs.declared.cause.Cause.{Cause};
-ghost use Rattle.stm_model.specs.declared.ending.Ending.{Ending};
 
 use crate::next::Next;
 use crate::running::Running;
@@ -63,6 +58,7 @@ impl Attempt {
         ensures same { self.new.attempt ≡ self.old.attempt }
         ensures left { self.new.left ≡ self.old.left }
         ensures ok { OnOk result (HasSpare reads writes self.new) }
+        ensures succeeds { HasSpare reads writes self.old → IsOk result }
         ensures room { HasSpare self.old.spare_reads self.old.spare_writes self.new }
     {
         self.running.reserve(reads, writes)
@@ -76,9 +72,9 @@ impl Attempt {
         requires built { IsBuilt ask }
         requires may { MayAsk (2 ^ 32) self.old.attempt ask }
         ensures moves { (self.new.attempt ≡ moved self.old.attempt (Takes ask)) ⊎ IsRefused self.old.attempt ask self.new.attempt }
-        ensures read { (addr : Addr) → ask ≡ Get addr → 0 < self.old.spare_reads → self.new.attempt ≡ moved self.old.attempt (Takes ask) }
-        ensures written { (addr : Addr) (value : ℕ) → ask ≡ Set addr value → IsFalse (writes_to self.old.attempt.now.writes addr.0) → 0 < self.old.spare_writes →
-            self.new.attempt ≡ moved self.old.attempt (Takes ask) }
+        ensures takes { TakesNoMemory self.old.spare_reads self.old.spare_writes self.old.attempt ask → self.new.attempt ≡ moved self.old.attempt (Takes ask) }
+        ensures goes_on { AwaitsAsk self.new.attempt ⊎ IsSome (next self.new.attempt) }
+        ensures due { self.new.attempt.due ≡ [] }
         ensures same { IsSameAttempt self.old.attempt self.new.attempt }
         ensures stays { (cause : Cause) → self.old.attempt.stage ≡ Stopped cause → IsCall ask → self.new.attempt ≡ self.old.attempt }
         ensures room { HasSpare (self.old.spare_reads - reads_asked ask) (self.old.spare_writes - writes_asked ask) self.new }
@@ -90,12 +86,8 @@ impl Attempt {
     /// What it does next, which says which call may follow.
     pub fn next(&self) -> Next
         ensures next { next_of self.now.attempt ≡ Some result }
-        ensures going { MakesAccess result → IsSome (next self.now.attempt) }
-        ensures clock { (answer : ℕ) → (FindsClock result → answer ≤ self.now.attempt.settings.clock) → ClockFits self.now.attempt (next self.now.attempt) answer }
-        ensures due { IsDue result → 0 < length self.now.attempt.due }
-        ensures waits { IsToBeAsked result → AwaitsAsk self.now.attempt }
-        ensures finish { IsToBeAsked result → MayAsk (2 ^ 32) self.now.attempt Finish }
-        ensures over { (ending : Ending) → result ≡ coming.Reply (reply.Ended ending) → IsAtRest self.now.attempt ending }
+        ensures promises { Promises self.now.attempt result }
+        ensures finish { MayAsk (2 ^ 32) self.now.attempt Finish }
     {
         self.running.next()
     }
@@ -103,8 +95,7 @@ impl Attempt {
     /// Takes the word that its access found: the clock, where that is what it found, is at most the
     /// settings'. It takes no memory.
     pub fn take(&mut self, answer: u64)
-        requires going { IsSome (next self.old.attempt) }
-        requires clock { ClockFits self.old.attempt (next self.old.attempt) answer }
+        requires { MayTake self.old.attempt answer }
         ensures after { self.new.attempt ≡ after_word self.old.attempt answer }
         ensures same { IsSameAttempt self.old.attempt self.new.attempt }
         ensures falls { self.new.left < self.old.left }

@@ -6,14 +6,14 @@ use stm_model::{Note, Notes};
 use write_buffer::WriteBuffer;
 
 /// What an attempt has read and written. As notes it is the buffered cells, and then what was read.
-#[derive(Debug, Drop)]
+#[derive(Drop)]
 pub struct Footprint {
     pub reads: ReadSet,
     pub writes: WriteBuffer,
 }
 
 /// The buffered cells as notes: each has the version 0 and its new value.
-#[derive(Clone, Copy, Debug)]
+#[derive(Clone, Copy)]
 pub struct Written<'a> {
     pub buffer: &'a WriteBuffer,
 }

@@ -8,8 +8,10 @@ mod footprint;
 mod next;
 mod rung;
 mod running;
+mod takes;
 
 pub use attempt::Attempt;
 pub use footprint::{Footprint, Written};
 pub use next::{Next, Reply};
+pub use running::{Running, State};
 pub use stm_model::{Ask, Ending};

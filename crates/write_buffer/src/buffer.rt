@@ -126,6 +126,13 @@ impl WriteBuffer {
         }
     }
 
+    /// How many first writes more take no memory.
+    pub fn spare_first_writes(&self) -> usize
+        ensures { result ≡ self.now.spare }
+    {
+        self.writes.capacity().saturating_sub(self.writes.len())
+    }
+
     /// Takes memory for so many first writes more and for as many rewrites.
     pub fn reserve(&mut self, more: usize) -> Result<(), Memory>
         ensures same { self.new.writes ≡ self.old.writes }

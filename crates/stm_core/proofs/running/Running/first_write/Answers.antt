@@ -1,16 +1,27 @@
-use Rattle.std.proofs.Common.{refl, sym, arith}
-use Rattle.stm_core.specs.Running.{InvariantAt}
+use Rattle.std.proofs.Common.{refl, rules, sym, arith}
+use Rattle.stm_core.specs.Running.{InvariantAt, attempt_at, left_at, reads_under_way, writes_under_way}
+use Rattle.stm_core.specs.Machine.{accesses_asked, reads_asked, writes_asked}
+use Rattle.stm_model.specs.Moves.{MayRunOut, asked_going}
 use Rattle.stm_core.proofs.running.Running.first_write.Goals as goal
 
-pub returns-in-Ok-clause-sound : goal.returns-in-Ok-clause-sound
-unfolding InvariantAt
-returns-in-Ok-clause-sound c = record {
-  fits = c.requires.fits;
-  holds = record {
-    made_for = c.new-op.ensures.for_attempt _ refl refl (sym c.noted_version-noted.ensures);
-    going = rw c.new-op.ensures.going refl;
-    within = c.new-op.ensures.within;
-    unwritten = rw (c.new-op.ensures.cell, c.reserve_first_writes.ensures.same) c.requires.unwritten;
-    room = omega (arith, c.in-Ok.ensures.ok);
+pub returns-in-Ok : goal.returns-in-Ok
+unfolding InvariantAt attempt_at left_at reads_under_way writes_under_way accesses_asked reads_asked writes_asked asked_going MayRunOut
+returns-in-Ok c = record {
+  moves = search rules;
+  takes = search rules;
+  asked = record {
+    left = search rules;
+    room = search rules;
+    nothing_due = c.requires.free.nothing_due;
+    numbers = record { own = refl; serial = refl; settings = refl };
+    sound = record {
+      fits = c.requires.free.fits;
+      holds = (record {
+        made_for = c.new-op.ensures.for_attempt _ refl refl (sym c.noted_version-noted.ensures);
+        within = c.new-op.ensures.within;
+        unwritten = rw (c.new-op.ensures.cell, c.reserve_first_writes.ensures.same) c.requires.unwritten;
+        room = omega (arith, c.in-Ok.ensures.ok);
+      }, rw c.new-op.ensures.going refl);
+    };
   };
 }
