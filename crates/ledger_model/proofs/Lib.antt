@@ -1,2 +1,5 @@
+pub mod Carried
+pub mod Growing
+pub mod Lates
 pub mod Meaning
 pub mod RowOrder

@@ -1,5 +1,6 @@
 pub mod Contents
 pub mod Fits
+pub mod Growth
 pub mod Maps
 pub mod Order
 pub mod Replays

@@ -1,17 +1,69 @@
 //! The laws of running, and worked hashes. Each function does nothing: its clauses are theorems.
-ghost use Rattle.std.specs.Prelude.{◌≡◌, ◌/◌, ◌%◌, [], ◌∷◌, map};
+ghost use Rattle.std.specs.Prelude.{◌≡◌, ◌≤◌, ◌/◌, ◌%◌, ℕ, false, List, [], ◌∷◌, ◌++◌, map};
+ghost use Rattle.stm_model.specs.declared.cause.HookPhase.{HookPhase};
+ghost use Rattle.stm_model.specs.Handlers.{undoing};
+ghost use Rattle.stm_model.specs.Telling.{Extends};
+ghost use Rattle.ledger_model.specs.Growth.{Grows, Rises, SameSizes, SameUnlessWritten, recorded};
 ghost use Rattle.ledger_model.specs.Maps.{hash};
+ghost use Rattle.ledger_model.specs.declared.job.Contents.{Contents};
 ghost use Rattle.ledger_model.specs.declared.script.Statement.{Statement};
 ghost use Rattle.ledger_model.specs.declared.script.Statement.TheOpen.{Statement-F};
 ghost use Rattle.ledger_model.specs.declared.script.Statement.TheViews.{roll-Statement};
 ghost use Rattle.ledger_model.specs.declared.script.Statement.TheFolds.{map-Statement};
-ghost use Rattle.ledger_model.specs.Run.{Known, State, known, meaning, step};
+ghost use Rattle.ledger_model.specs.Run.{Kept, Known, State, and_then, known, late_bodies, meaning, run, run_block, start, statement_count, step, undone};
 
 /// A statement does what its step says, with what each statement inside it does in that one's
 /// place; and a statement that is put off is kept as it is.
 pub fn statements_do_their_steps()
     ensures steps { (layer : Statement-F Statement) (s : State) → meaning (roll-Statement layer) s ≡ step (map-Statement Statement Known known layer) s }
     ensures itself { (statement : Statement) → (known statement).itself ≡ statement }
+{}
+
+/// Before-commit bodies are registered with the script's own statements and run behind them, and each
+/// may register more. Where the script is kept, none is left over. The queue never runs out of turns:
+/// as many as there are statements, or any more of them, make the same run.
+pub fn every_late_body_runs()
+    ensures none_left { (block : List Statement) (contents : Contents) →
+        (run block contents).end ≡ Kept → (run block contents).after.lates ≡ [] }
+    ensures turns { (block : List Statement) (contents : Contents) (turns : ℕ) → statement_count block ≤ turns →
+        and_then (run_block block (start contents)) (late_bodies turns) ≡ run block contents }
+{}
+
+/// All that a run ever prints, the totals that it notes, and the handlers that it registers or runs are
+/// together no more than the script has statements: none runs twice.
+pub fn a_run_records_at_most_its_statements()
+    ensures { (block : List Statement) (contents : Contents) →
+        recorded (run block contents).after ≤ statement_count block }
+{}
+
+/// What was printed, registered, run or added up stays in front of what comes later, and totals only
+/// rise. So a block that is undone runs its own handlers, and none from before it.
+pub fn what_is_recorded_stays_in_front()
+    ensures statement { (statement : Statement) (s : State) →
+        Grows s (meaning statement s).after × Extends s.lates (meaning statement s).after.lates }
+    ensures block { (block : List Statement) (s : State) →
+        Grows s (run_block block s).after × Extends s.lates (run_block block s).after.lates }
+    ensures late_bodies { (block : List Statement) (contents : Contents) →
+        Grows (run_block block (start contents)).after (run block contents).after }
+    ensures totals { (block : List Statement) (contents : Contents) →
+        Rises 0 (run block contents).after.totals }
+    ensures undone { (before after : State) (own : List (HookPhase × ℕ)) → after.hooks ≡ before.hooks ++ own →
+        (undone before after).runs ≡ after.runs ++ undoing own }
+{}
+
+/// A script that has written nothing at its end leaves the contents that it found.
+pub fn who_writes_nothing_changes_nothing()
+    ensures block { (block : List Statement) (s : State) → SameUnlessWritten s (run_block block s).after }
+    ensures run { (block : List Statement) (contents : Contents) →
+        (run block contents).after.wrote ≡ false → (run block contents).after.contents ≡ contents }
+{}
+
+/// No run changes how many registers, references, maps and slots there are, or how many blocks are in
+/// use.
+pub fn no_run_changes_a_size()
+    ensures block { (block : List Statement) (s : State) → SameSizes s (run_block block s).after }
+    ensures run { (block : List Statement) (contents : Contents) →
+        SameSizes (start contents) (run block contents).after }
 {}
 
 /// The low four bits of the hashes of 1 to 9 are all set, and what stands next to them differs.
