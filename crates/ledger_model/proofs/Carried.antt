@@ -9,7 +9,7 @@ use Rattle.ledger_model.specs.declared.script.Statement.TheOpen as layer
 use Rattle.ledger_model.specs.declared.script.Statement.TheViews.{roll-Statement}
 use Rattle.ledger_model.specs.declared.script.Statement.TheFolds.{map-Statement, fold-Statement, fold-roll-Statement, ind-Statement}
 use Rattle.ledger_model.specs.Maps.{delete_pair, path_allowance, put_pair, same_hash, value_at}
-use Rattle.ledger_model.specs.Run.{State, Outcome, Meaning, End, Kept, Failed, Retried, Known, kept, and_then, in_turn, nested, undone_unless_kept, undone, caught, or_else, either, move, moved_into, put, delete, share, value_of, ref_at, map_at, slot_at, set_register, set_ref, set_map, set_slot, printed, registered, put_off, allowed, step, known, meaning, run_block, count_step, statement_count}
+use Rattle.ledger_model.specs.Run.{State, Outcome, Meaning, End, Kept, Failed, Retried, Known, kept, and_then, in_turn, nested, undone_unless_kept, undone, caught, or_else, either, move, moved_into, put, delete, share, value_of, ref_at, map_at, slot_at, set_register, set_ref, set_map, set_slot, printed, registered, registered_late, allowed, step, known, meaning, run_block, count_step, statement_count}
 use Rattle.ledger_model.proofs.Meaning.{itself-known, meaning-roll}
 
 -- Each single change keeps R, which has a count of the statements that lie between the two moments.
@@ -24,7 +24,7 @@ pub record Carried (R : ℕ → State → State → Type 0) : Type 0 where
   pub slot : (k : ℕ) (pairs : List (ℕ × ℕ)) (s : State) → R 0 s (set_slot k pairs s)
   pub print : (n : ℕ) (s : State) → R 1 s (printed n s)
   pub hook : (phase : HookPhase) (token : ℕ) (s : State) → R 1 s (registered phase token s)
-  pub late : (body : List Statement) (s : State) → R (1 + statement_count body) s (put_off body s)
+  pub late : (body : List Statement) (s : State) → R (1 + statement_count body) s (registered_late body s)
   pub allow : (n : ℕ) (s : State) → 0 < n → R 1 s (allowed n s)
 
 -- ---- how many statements there are, layer by layer

@@ -40,8 +40,16 @@ unfolding last_from
 last_append low [] more = refl
 last_append low (n ∷ list) more = last_append n list more
 
+pub Rises-nil : (low : ℕ) → Rises low []
+unfolding Rises
+Rises-nil low = tt
+
+pub Rises-cons : (low n : ℕ) (more : List ℕ) → low < n → Rises n more → Rises low (n ∷ more)
+unfolding Rises
+Rises-cons low n more less rest = (less, rest)
+
 Rises-append : (low : ℕ) (list more : List ℕ) → Rises low list → Rises (last_from low list) more → Rises low (list ++ more)
-unfolding last_from
+unfolding last_from Rises
 Rises-append low [] more h g = g
 Rises-append low (n ∷ list) more h g = (h.0, Rises-append n list more h.1 g)
 
@@ -52,7 +60,7 @@ allowance_then s t more is =
     ∙ (last_is (s.totals ++ more) ∙ (last_append 0 s.totals more ∙ ap (λ low. last_from low more) (sym (last_is s.totals))))
 
 TotalsRise-same : (s t : State) → t.totals ≡ s.totals → TotalsRise s t
-TotalsRise-same s t is = ([], is ∙ sym (append-nil s.totals), tt)
+TotalsRise-same s t is = ([], is ∙ sym (append-nil s.totals), Rises-nil (allowance s))
 
 TotalsRise-trans : (s t u : State) → TotalsRise s t → TotalsRise t u → TotalsRise s u
 TotalsRise-trans s t u h g = (
@@ -100,7 +108,7 @@ grows = record {
   print = λ n s. record { prints = Extends-append s.prints (n ∷ []); trail = Extends-append s.trail (n ∷ []); hooks = Extends-refl s.hooks; runs = Extends-refl s.runs; totals = TotalsRise-same s (printed n s) refl };
   hook = λ phase token s. record { prints = Extends-refl s.prints; trail = Extends-refl s.trail; hooks = Extends-append s.hooks ((phase, token) ∷ []); runs = Extends-refl s.runs; totals = TotalsRise-same s (registered phase token s) refl };
   late = λ body s. Grows-same s _ refl refl refl refl refl;
-  allow = λ n s positive. record { prints = Extends-refl s.prints; trail = Extends-refl s.trail; hooks = Extends-refl s.hooks; runs = Extends-refl s.runs; totals = ((allowance s + n) ∷ [], refl, (omega (arith, positive), tt)) };
+  allow = λ n s positive. record { prints = Extends-refl s.prints; trail = Extends-refl s.trail; hooks = Extends-refl s.hooks; runs = Extends-refl s.runs; totals = ((allowance s + n) ∷ [], refl, Rises-cons (allowance s) (allowance s + n) [] (omega (arith, positive)) (Rises-nil (allowance s + n))) };
 }
 
 -- the before-commit bodies that are registered

@@ -3,3 +3,4 @@ pub mod Growing
 pub mod Lates
 pub mod Meaning
 pub mod RowOrder
+pub mod WorkedLemmas

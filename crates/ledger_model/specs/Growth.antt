@@ -4,7 +4,7 @@ use Rattle.stm_model.specs.Telling.{Extends}
 use Rattle.ledger_model.specs.Run.{State, allowance}
 
 -- each is greater than the one before it, and the first than `low`
-abbrev pub Rises : ℕ → List ℕ → Type 0
+unfoldable pub Rises : ℕ → List ℕ → Type 0
 Rises low [] = Unit {0}
 Rises low (n ∷ more) = (low < n) × Rises n more
 

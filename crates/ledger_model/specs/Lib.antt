@@ -9,3 +9,4 @@ pub mod Run
 pub mod Settle
 pub mod Straight
 pub mod Turns
+pub mod Worked

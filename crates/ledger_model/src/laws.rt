@@ -13,7 +13,7 @@ ghost use Rattle.ledger_model.specs.declared.script.Statement.TheFolds.{map-Stat
 ghost use Rattle.ledger_model.specs.Run.{Kept, Known, State, and_then, known, late_bodies, meaning, run, run_block, start, statement_count, step, undone};
 
 /// A statement does what its step says, with what each statement inside it does in that one's
-/// place; and a statement that is put off is kept as it is.
+/// place; and a statement inside a before-commit body is kept as it is.
 pub fn statements_do_their_steps()
     ensures steps { (layer : Statement-F Statement) (s : State) → meaning (roll-Statement layer) s ≡ step (map-Statement Statement Known known layer) s }
     ensures itself { (statement : Statement) → (known statement).itself ≡ statement }
