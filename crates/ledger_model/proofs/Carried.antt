@@ -1,5 +1,5 @@
 -- A relation between moments that each single change carries on is carried on by every statement and every block.
-use Rattle.std.proofs.Common.{◌≡◌, ◌≤◌, ◌<◌, ◌+◌, ◌-◌, ◌^◌, ℕ, zero, suc, Bool, true, false, if◌then◌else◌, List, [], ◌∷◌, map, is_some, nat_lt, nat_eq, refl, ap, sym, subst, ◌∙◌, arith}
+use Rattle.std.proofs.Common.{◌≡◌, ◌≤◌, ◌<◌, ◌+◌, ◌-◌, ◌^◌, ℕ, Bool, true, false, if◌then◌else◌, List, [], ◌∷◌, map, is_some, nat_lt, nat_eq, refl, ap, sym, subst, ◌∙◌, arith}
 use Rattle.std.specs.Prelude.{sum, sum_by}
 use Rattle.std.proofs.lemmas.List.Sums.{sum_by-cons}
 use Rattle.stm_model.specs.declared.cause.HookPhase.{HookPhase}
@@ -8,8 +8,8 @@ use Rattle.ledger_model.specs.declared.script.Statement.TheOpen.{Statement-F}
 use Rattle.ledger_model.specs.declared.script.Statement.TheOpen as layer
 use Rattle.ledger_model.specs.declared.script.Statement.TheViews.{roll-Statement}
 use Rattle.ledger_model.specs.declared.script.Statement.TheFolds.{map-Statement, fold-Statement, fold-roll-Statement, ind-Statement}
-use Rattle.ledger_model.specs.Maps.{delete_pair, path_allowance, put_pair, same_hash, value_at}
-use Rattle.ledger_model.specs.Run.{State, Outcome, Meaning, End, Kept, Failed, Retried, Known, kept, and_then, in_turn, nested, undone_unless_kept, undone, caught, or_else, either, move, moved_into, put, delete, share, value_of, ref_at, map_at, slot_at, set_register, set_ref, set_map, set_slot, printed, registered, registered_late, allowed, step, known, meaning, run_block, count_step, statement_count}
+use Rattle.ledger_model.specs.Maps.{delete_pair, path_allowance, put_pair, value_at}
+use Rattle.ledger_model.specs.Run.{State, Outcome, Meaning, End, Kept, Failed, Retried, Known, kept, and_then, in_turn, nested, undone_unless_kept, undone, caught, or_else, either, move, moved_into, put, delete, share, value_of, ref_at, map_at, set_register, set_ref, set_map, set_slot, printed, registered, registered_late, allowed, step, known, meaning, run_block, count_step, statement_count}
 use Rattle.ledger_model.proofs.Meaning.{itself-known, meaning-roll}
 
 -- Each single change keeps R, which has a count of the statements that lie between the two moments.
@@ -20,8 +20,10 @@ pub record Carried (R : ℕ → State → State → Type 0) : Type 0 where
   pub back : (n : ℕ) (s t : State) → R n s t → R n s (undone s t)
   pub register : (r n : ℕ) (s : State) → R 0 s (set_register r n s)
   pub ref : (cell n : ℕ) (s : State) → R 0 s (set_ref cell n s)
-  pub pairs : (m : ℕ) (pairs : List (ℕ × ℕ)) (s : State) → R 0 s (set_map m pairs s)
-  pub slot : (k : ℕ) (pairs : List (ℕ × ℕ)) (s : State) → R 0 s (set_slot k pairs s)
+  pub put : (m key value : ℕ) (s : State) → R 0 s (set_map m (put_pair key value (map_at m s)) s)
+  pub del : (m key : ℕ) (s : State) → R 0 s (set_map m (delete_pair key (map_at m s)) s)
+  pub share : (from into : ℕ) (s : State) → R 0 s (set_map into (map_at from s) s)
+  pub snap : (k m : ℕ) (s : State) → R 0 s (set_slot k (map_at m s) s)
   pub print : (n : ℕ) (s : State) → R 1 s (printed n s)
   pub hook : (phase : HookPhase) (token : ℕ) (s : State) → R 1 s (registered phase token s)
   pub late : (body : List Statement) (s : State) → R (1 + statement_count body) s (registered_late body s)
@@ -115,22 +117,25 @@ module _ (R : ℕ → State → State → Type 0) (rule : Carried R) where
   either_state true s t u h g = h
   either_state false s t u h g = g
 
+  -- the allowance of a path, which is never nothing
   path : (key m : ℕ) (s : State) → R 1 s (allowed (path_allowance key (map_at m s)) s)
   path key m s = rule.allow (path_allowance key (map_at m s)) s (omega arith)
 
-  sets_pairs : (n m : ℕ) (pairs : List (ℕ × ℕ)) (s : State) → 0 < n → R 1 s (set_map m pairs (allowed n s))
-  sets_pairs n m pairs s h = and_set 1 s (allowed n s) _ (rule.allow n s h) (rule.pairs m pairs (allowed n s))
+  puts : (m key value : ℕ) (s : State) → R 1 s (put m key value s)
+  puts m key value s =
+      let t : State = allowed (path_allowance key (map_at m s)) s in and_set 1 s t (put m key value s) (path key m s) (rule.put m key value t)
 
   deletes : (m key : ℕ) (s : State) → R 1 s (delete m key s)
   deletes m key s =
-      let n : ℕ = path_allowance key (map_at m s) in
-      either_state (is_some (value_at key (map_at m s))) s (set_map m (delete_pair key (map_at m s)) (allowed n s)) (allowed n s)
-      (sets_pairs n m (delete_pair key (map_at m s)) s (omega arith)) (path key m s)
+      let t : State = allowed (path_allowance key (map_at m s)) s in
+      either_state (is_some (value_at key (map_at m s))) s (set_map m (delete_pair key (map_at m t)) t) t
+      (and_set 1 s t (set_map m (delete_pair key (map_at m t)) t) (path key m s) (rule.del m key t)) (path key m s)
 
   shares : (from into : ℕ) (s : State) → R 1 s (share from into s)
   shares from into s =
-      either_state (nat_eq from into) s (allowed 2 s) (set_map into (map_at from s) (allowed 2 s)) (rule.allow 2 s (omega arith))
-      (sets_pairs 2 into (map_at from s) s (omega arith))
+      let t : State = allowed 2 s in
+      let two : R 1 s t = rule.allow 2 s (omega arith) in
+      either_state (nat_eq from into) s t (set_map into (map_at from t) t) two (and_set 1 s t (set_map into (map_at from t) t) two (rule.share from into t))
 
   -- ---- blocks of statements that are known to carry it on
 
@@ -186,11 +191,12 @@ module _ (R : ℕ → State → State → Type 0) (rule : Carried R) where
       (let b = ap statement_count (itself_all (map plain block)) in let c = sum_map (map plain block) in omega (arith, b, c))
       (rule.late body s)
   layers (layer.Hook phase token) s = rule.hook phase token s
-  layers (layer.Put m x y) s = sets_pairs (path_allowance (value_of x s) (map_at m s)) m _ s (omega arith)
+  layers (layer.Put m x y) s = puts m (value_of x s) (value_of y s) s
   layers (layer.Del m x) s = deletes m (value_of x s) s
   layers (layer.Look r m x y) s = one s _ (rule.register r _ s)
   layers (layer.LookSlot r k x y) s = one s _ (rule.register r _ s)
-  layers (layer.Snap k m) s = and_set 1 s (allowed 1 s) _ (rule.allow 1 s (omega arith)) (rule.slot k (map_at m s) (allowed 1 s))
+  layers (layer.Snap k m) s =
+      let t : State = allowed 1 s in and_set 1 s t (set_slot k (map_at m t) t) (rule.allow 1 s (omega arith)) (rule.snap k m t)
   layers (layer.Share from into) s = shares from into s
 
   pub statement : (m : Statement) (s : State) → R (fold-Statement ℕ count_step m) s (meaning m s).after

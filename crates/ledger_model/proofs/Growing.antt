@@ -1,6 +1,6 @@
 -- What a run only adds to, and what it leaves as it was.
-use Rattle.std.proofs.Common.{◌≡◌, ◌≤◌, ◌<◌, ◌+◌, ◌-◌, ℕ, zero, suc, Bool, true, false, List, [], ◌∷◌, ◌++◌, length, drop, slice_index, slice_set, refl, ap, sym, subst, ◌∙◌, arith, append_assoc}
-use Rattle.std.proofs.lemmas.List.{append-nil, length-append, length-set}
+use Rattle.std.proofs.Common.{◌≡◌, ◌<◌, ◌+◌, ◌-◌, ℕ, zero, suc, false, List, [], ◌∷◌, ◌++◌, length, drop, take, slice_index, refl, ap, sym, subst, ◌∙◌, arith, append_assoc}
+use Rattle.std.proofs.lemmas.List.{append-nil, length-set}
 use Rattle.std.proofs.Math.Seq.{drop-append_seam}
 use Rattle.stm_model.specs.declared.cause.HookPhase.{HookPhase}
 use Rattle.stm_model.specs.Handlers.{undoing}
@@ -8,8 +8,15 @@ use Rattle.stm_model.specs.Telling.{Extends}
 use Rattle.stm_model.proofs.CellsLemmas.{Extends-refl, Extends-append, Extends-trans}
 use Rattle.ledger_model.specs.declared.job.Contents.{Contents}
 use Rattle.ledger_model.specs.declared.script.Statement.{Statement}
-use Rattle.ledger_model.specs.Growth.{Grows, Rises, SameSizes, SameUnlessWritten, TotalsRise}
-use Rattle.ledger_model.specs.Run.{State, Outcome, Meaning, End, Kept, Failed, Retried, allowance, and_then, printed, registered, run_block, meaning, undone, late_bodies, next_late, start, run, statement_count}
+use Rattle.ledger_model.specs.declared.job.Job.{Job}
+use Rattle.ledger_model.specs.declared.listing.Row.{Row}
+use Rattle.ledger_model.specs.Contents.{opening_contents}
+use Rattle.ledger_model.specs.Replays.{after_writers, block_of, contents_after, left_by, writers_of}
+use Rattle.ledger_model.specs.Growth.{Grows, Rises, SameSizes, SameUnlessWritten, MapsAscend, TotalsRise}
+use Rattle.ledger_model.specs.Run.{State, Outcome, Meaning, End, Kept, Failed, Retried, allowance, and_then, map_at, printed, registered, set_map, run_block, meaning, undone, late_bodies, next_late, start, run, statement_count}
+use Rattle.ledger_model.specs.Maps.{delete_pair, put_pair}
+use Rattle.stm_model.specs.Pairs.{KeysAscend}
+use Rattle.ledger_model.proofs.MapLemmas.{All-at, All-replicate, All-set, KeysAscend-delete, KeysAscend-put}
 use Rattle.ledger_model.proofs.Carried.{Carried}
 use Rattle.ledger_model.proofs.Carried as carried
 
@@ -103,8 +110,10 @@ grows = record {
   };
   register = λ r n s. Grows-same s _ refl refl refl refl refl;
   ref = λ cell n s. Grows-same s _ refl refl refl refl refl;
-  pairs = λ m pairs s. Grows-same s _ refl refl refl refl refl;
-  slot = λ k pairs s. Grows-same s _ refl refl refl refl refl;
+  put = λ m key value s. Grows-same s _ refl refl refl refl refl;
+  del = λ m key s. Grows-same s _ refl refl refl refl refl;
+  share = λ from into s. Grows-same s _ refl refl refl refl refl;
+  snap = λ k m s. Grows-same s _ refl refl refl refl refl;
   print = λ n s. record { prints = Extends-append s.prints (n ∷ []); trail = Extends-append s.trail (n ∷ []); hooks = Extends-refl s.hooks; runs = Extends-refl s.runs; totals = TotalsRise-same s (printed n s) refl };
   hook = λ phase token s. record { prints = Extends-refl s.prints; trail = Extends-refl s.trail; hooks = Extends-append s.hooks ((phase, token) ∷ []); runs = Extends-refl s.runs; totals = TotalsRise-same s (registered phase token s) refl };
   late = λ body s. Grows-same s _ refl refl refl refl refl;
@@ -124,8 +133,10 @@ lates = record {
   back = λ n s t h. Extends-refl s.lates;
   register = λ r n s. Extends-refl s.lates;
   ref = λ cell n s. Extends-refl s.lates;
-  pairs = λ m pairs s. Extends-refl s.lates;
-  slot = λ k pairs s. Extends-refl s.lates;
+  put = λ m key value s. Extends-refl s.lates;
+  del = λ m key s. Extends-refl s.lates;
+  share = λ from into s. Extends-refl s.lates;
+  snap = λ k m s. Extends-refl s.lates;
   print = λ n s. Extends-refl s.lates;
   hook = λ phase token s. Extends-refl s.lates;
   late = λ body s. Extends-append s.lates (body ∷ []);
@@ -142,8 +153,10 @@ unwritten = record {
   back = λ n s t h no. (no, refl);
   register = λ r n s no. (no, refl);
   ref = λ cell n s no. absurd cc;
-  pairs = λ m pairs s no. absurd cc;
-  slot = λ k pairs s no. absurd cc;
+  put = λ m key value s no. absurd cc;
+  del = λ m key s no. absurd cc;
+  share = λ from into s no. absurd cc;
+  snap = λ k m s no. absurd cc;
   print = λ n s no. (no, refl);
   hook = λ phase token s no. (no, refl);
   late = λ body s no. (no, refl);
@@ -152,6 +165,9 @@ unwritten = record {
 
 SameSizes-refl : (s : State) → SameSizes s s
 SameSizes-refl s = record { registers = refl; refs = refl; maps = refl; slots = refl; used = refl }
+
+SameSizes-map : (m : ℕ) (pairs : List (ℕ × ℕ)) (s : State) → SameSizes s (set_map m pairs s)
+SameSizes-map m pairs s = record { registers = refl; refs = refl; maps = length-set s.contents.maps m pairs; slots = refl; used = refl }
 
 sizes : Carried (λ n. SameSizes)
 sizes = record {
@@ -167,12 +183,39 @@ sizes = record {
   back = λ n s t h. record { registers = refl; refs = refl; maps = refl; slots = refl; used = refl };
   register = λ r n s. record { registers = length-set s.registers r n; refs = refl; maps = refl; slots = refl; used = refl };
   ref = λ cell n s. record { registers = refl; refs = length-set s.contents.refs cell n; maps = refl; slots = refl; used = refl };
-  pairs = λ m pairs s. record { registers = refl; refs = refl; maps = length-set s.contents.maps m pairs; slots = refl; used = refl };
-  slot = λ k pairs s. record { registers = refl; refs = refl; maps = refl; slots = length-set s.contents.slots k pairs; used = refl };
+  put = λ m key value s. SameSizes-map m (put_pair key value (map_at m s)) s;
+  del = λ m key s. SameSizes-map m (delete_pair key (map_at m s)) s;
+  share = λ from into s. SameSizes-map into (map_at from s) s;
+  snap = λ k m s. record { registers = refl; refs = refl; maps = refl; slots = length-set s.contents.slots k (map_at m s); used = refl };
   print = λ n s. record { registers = refl; refs = refl; maps = refl; slots = refl; used = refl };
   hook = λ phase token s. record { registers = refl; refs = refl; maps = refl; slots = refl; used = refl };
   late = λ body s. record { registers = refl; refs = refl; maps = refl; slots = refl; used = refl };
   allow = λ n s positive. record { registers = refl; refs = refl; maps = refl; slots = refl; used = refl };
+}
+
+-- the maps, where they ascended before
+Ascend : State → State → Type 0
+Ascend s t = MapsAscend s.contents → MapsAscend t.contents
+
+ascend : Carried (λ n. Ascend)
+unfolding Ascend
+ascend = record {
+  same = λ s maps. maps;
+  wider = λ m n s t le h. h;
+  joined = λ m n s t u h g maps. g (h maps);
+  back = λ n s t h maps. maps;
+  register = λ r n s maps. maps;
+  ref = λ cell n s maps. maps;
+  put = λ m key value s maps.
+      (All-set KeysAscend s.contents.maps m (put_pair key value (map_at m s)) maps.0 (KeysAscend-put key value (map_at m s) (All-at KeysAscend s.contents.maps m [] maps.0 tt)), maps.1);
+  del = λ m key s maps.
+      (All-set KeysAscend s.contents.maps m (delete_pair key (map_at m s)) maps.0 (KeysAscend-delete key (map_at m s) (All-at KeysAscend s.contents.maps m [] maps.0 tt)), maps.1);
+  share = λ from into s maps. (All-set KeysAscend s.contents.maps into (map_at from s) maps.0 (All-at KeysAscend s.contents.maps from [] maps.0 tt), maps.1);
+  snap = λ k m s maps. (maps.0, All-set KeysAscend s.contents.slots k (map_at m s) maps.1 (All-at KeysAscend s.contents.maps m [] maps.0 tt));
+  print = λ n s maps. maps;
+  hook = λ phase token s maps. maps;
+  late = λ body s maps. maps;
+  allow = λ n s positive maps. maps;
 }
 
 -- ---- blocks, and whole runs
@@ -241,8 +284,28 @@ block_sizes = carried.block (λ n. SameSizes) sizes
 pub run_sizes : (block : List Statement) (contents : Contents) → SameSizes (start contents) (run block contents).after
 run_sizes = whole SameSizes sizes (λ s rest. record { registers = refl; refs = refl; maps = refl; slots = refl; used = refl })
 
+pub block_ascend : (block : List Statement) (s : State) → MapsAscend s.contents → MapsAscend (run_block block s).after.contents
+unfolding Ascend
+block_ascend = carried.block (λ n. Ascend) ascend
+
+pub run_ascend : (block : List Statement) (contents : Contents) → MapsAscend contents → MapsAscend (run block contents).after.contents
+unfolding Ascend
+run_ascend = whole Ascend ascend (λ s rest maps. maps)
+
 -- ---- undone blocks
 
 pub own_handlers : (before after : State) (own : List (HookPhase × ℕ)) → after.hooks ≡ before.hooks ++ own → (undone before after).runs ≡ after.runs ++ undoing own
 own_handlers before after own is =
     ap (λ hooks. after.runs ++ undoing hooks) (ap (drop (length before.hooks)) is ∙ drop-append_seam before.hooks own)
+
+-- ---- the contents of a listing
+
+opening_ascend : (job : Job) → MapsAscend (opening_contents job)
+opening_ascend job = (All-replicate KeysAscend job.maps [] tt, All-replicate KeysAscend job.snaps [] tt)
+
+writers_ascend : (job : Job) (rows : List Row) (contents : Contents) → MapsAscend contents → MapsAscend (after_writers job rows contents)
+writers_ascend job [] contents maps = maps
+writers_ascend job (row ∷ rows) contents maps = writers_ascend job rows (left_by job row contents) (run_ascend (block_of job row.worker row.number) contents maps)
+
+pub listed_ascend : (job : Job) (rows : List Row) (n : ℕ) → MapsAscend (contents_after job rows n)
+listed_ascend job rows n = writers_ascend job (take n (writers_of rows)) (opening_contents job) (opening_ascend job)

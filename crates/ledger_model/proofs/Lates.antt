@@ -1,5 +1,5 @@
 -- Each before-commit body runs, and each statement at most once: as many turns as there are statements suffice.
-use Rattle.std.proofs.Common.{◌≡◌, ◌≤◌, ◌+◌, ◌-◌, ℕ, zero, suc, List, [], ◌∷◌, ◌++◌, length, drop, filter, reverse, refl, ap, sym, subst, ◌∙◌, arith, length-append, length-drop}
+use Rattle.std.proofs.Common.{◌≡◌, ◌≤◌, ◌+◌, ℕ, zero, suc, List, [], ◌∷◌, ◌++◌, length, drop, refl, ap, arith, length-append, length-drop}
 use Rattle.std.proofs.lemmas.List.{length-reverse}
 use Rattle.std.proofs.lemmas.List.Sums.{count_by-le-length, length-filter}
 use Rattle.stm_model.specs.declared.cause.HookPhase.{HookPhase}
@@ -7,7 +7,8 @@ use Rattle.stm_model.specs.Handlers.{is_undoing, of_phase, undoing}
 use Rattle.ledger_model.specs.declared.job.Contents.{Contents}
 use Rattle.ledger_model.specs.declared.script.Statement.{Statement}
 use Rattle.ledger_model.specs.Growth.{recorded}
-use Rattle.ledger_model.specs.Run.{State, Outcome, Meaning, End, Kept, Failed, Retried, kept, and_then, run_block, statement_count, next_late, late_bodies, start, run, undone, set_register, set_ref, set_map, set_slot, allowance}
+use Rattle.ledger_model.specs.Maps.{delete_pair, put_pair}
+use Rattle.ledger_model.specs.Run.{State, Outcome, Meaning, End, Kept, Failed, Retried, kept, and_then, run_block, statement_count, next_late, late_bodies, start, run, undone, set_register, set_ref, set_map, set_slot, map_at, allowance}
 use Rattle.ledger_model.proofs.Carried.{Carried}
 use Rattle.ledger_model.proofs.Carried as carried
 
@@ -89,8 +90,10 @@ bounded = record {
   back = bounded_back;
   register = λ r n s. bounded_same s (set_register r n s) refl refl refl refl refl;
   ref = λ cell n s. bounded_same s (set_ref cell n s) refl refl refl refl refl;
-  pairs = λ m pairs s. bounded_same s (set_map m pairs s) refl refl refl refl refl;
-  slot = λ k pairs s. bounded_same s (set_slot k pairs s) refl refl refl refl refl;
+  put = λ m key value s. bounded_same s (set_map m (put_pair key value (map_at m s)) s) refl refl refl refl refl;
+  del = λ m key s. bounded_same s (set_map m (delete_pair key (map_at m s)) s) refl refl refl refl refl;
+  share = λ from into s. bounded_same s (set_map into (map_at from s) s) refl refl refl refl refl;
+  snap = λ k m s. bounded_same s (set_slot k (map_at m s) s) refl refl refl refl refl;
   print = λ n s. let a = length-append s.trail (n ∷ []) in record { lates = omega arith; all = omega (arith, a); fewer = omega arith; hooks = omega arith };
   hook = λ phase token s.
       let a = length-append s.hooks ((phase, token) ∷ []) in record { lates = omega arith; all = omega (arith, a); fewer = omega arith; hooks = omega (arith, a) };

@@ -1,6 +1,9 @@
 -- What a run only adds to, what it leaves as it was, and how much it can add.
 use Rattle.std.specs.Prelude.{◌≡◌, ℕ, ◌+◌, ◌<◌, false, List, [], ◌∷◌, ◌++◌, length}
+use Rattle.std.specs.List.{AllByRecursion}
 use Rattle.stm_model.specs.Telling.{Extends}
+use Rattle.stm_model.specs.Pairs.{KeysAscend}
+use Rattle.ledger_model.specs.declared.job.Contents.{Contents}
 use Rattle.ledger_model.specs.Run.{State, allowance}
 
 -- each is greater than the one before it, and the first than `low`
@@ -31,6 +34,10 @@ pub record SameSizes (before after : State) : Type 0 where
   pub maps : length after.contents.maps ≡ length before.contents.maps
   pub slots : length after.contents.slots ≡ length before.contents.slots
   pub used : after.contents.used ≡ before.contents.used
+
+-- The pairs of each map and of each slot stand by ascending keys, each key once.
+abbrev pub MapsAscend : Contents → Type 0
+MapsAscend contents = AllByRecursion KeysAscend contents.maps × AllByRecursion KeysAscend contents.slots
 
 -- how many numbers were ever printed, totals noted, and handlers registered or run
 abbrev pub recorded : State → ℕ

@@ -1,5 +1,5 @@
 -- What a script does, run alone on plain contents.
-use Rattle.std.specs.Prelude.{ℕ, zero, suc, ◌+◌, ◌-◌, ◌%◌, ◌^◌, Bool, true, false, nat_eq, nat_lt, if◌then◌else◌, List, [], ◌∷◌, ◌++◌, length, map, filter, replicate, drop, slice_index, slice_index_or, slice_set, unwrap_or, is_some, sum, sum_by}
+use Rattle.std.specs.Prelude.{ℕ, zero, suc, ◌+◌, ◌-◌, ◌%◌, ◌^◌, Bool, true, false, nat_eq, nat_lt, if◌then◌else◌, List, [], ◌∷◌, ◌++◌, length, map, replicate, drop, slice_index, slice_index_or, slice_set, unwrap_or, is_some, sum, sum_by}
 use Rattle.stm_model.specs.declared.cause.HookPhase.{HookPhase}
 use Rattle.stm_model.specs.Handlers.{undoing}
 use Rattle.ledger_model.specs.declared.job.Contents.{Contents}

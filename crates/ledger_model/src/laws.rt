@@ -1,11 +1,15 @@
 //! The laws of running, and worked hashes. Each function does nothing: its clauses are theorems.
-ghost use Rattle.std.specs.Prelude.{◌≡◌, ◌≤◌, ◌/◌, ◌%◌, ℕ, false, List, [], ◌∷◌, ◌++◌, map};
+ghost use Rattle.std.specs.Prelude.{◌≡◌, ◌≢◌, ◌≤◌, ◌/◌, ◌%◌, ℕ, false, List, [], ◌∷◌, ◌++◌, map, Some, None};
 ghost use Rattle.stm_model.specs.declared.cause.HookPhase.{HookPhase};
 ghost use Rattle.stm_model.specs.Handlers.{undoing};
+ghost use Rattle.stm_model.specs.Pairs.{KeysAscend};
 ghost use Rattle.stm_model.specs.Telling.{Extends};
-ghost use Rattle.ledger_model.specs.Growth.{Grows, Rises, SameSizes, SameUnlessWritten, recorded};
-ghost use Rattle.ledger_model.specs.Maps.{hash};
+ghost use Rattle.ledger_model.specs.Growth.{Grows, MapsAscend, Rises, SameSizes, SameUnlessWritten, recorded};
+ghost use Rattle.ledger_model.specs.Maps.{delete_pair, hash, put_pair, value_at};
 ghost use Rattle.ledger_model.specs.declared.job.Contents.{Contents};
+ghost use Rattle.ledger_model.specs.Replays.{contents_after};
+ghost use Rattle.ledger_model.specs.declared.job.Job.{Job};
+ghost use Rattle.ledger_model.specs.declared.listing.Row.{Row};
 ghost use Rattle.ledger_model.specs.declared.script.Statement.{Statement};
 ghost use Rattle.ledger_model.specs.declared.script.Statement.TheOpen.{Statement-F};
 ghost use Rattle.ledger_model.specs.declared.script.Statement.TheViews.{roll-Statement};
@@ -64,6 +68,30 @@ pub fn no_run_changes_a_size()
     ensures block { (block : List Statement) (s : State) → SameSizes s (run_block block s).after }
     ensures run { (block : List Statement) (contents : Contents) →
         SameSizes (start contents) (run block contents).after }
+{}
+
+/// A map's pairs stand by ascending keys, each key once, at every moment of every run, and in the
+/// contents that a listing's writers leave.
+pub fn maps_ascend_by_their_keys()
+    ensures put { (key value : ℕ) (pairs : List (ℕ × ℕ)) → KeysAscend pairs → KeysAscend (put_pair key value pairs) }
+    ensures delete { (key : ℕ) (pairs : List (ℕ × ℕ)) → KeysAscend pairs → KeysAscend (delete_pair key pairs) }
+    ensures block { (block : List Statement) (s : State) →
+        MapsAscend s.contents → MapsAscend (run_block block s).after.contents }
+    ensures run { (block : List Statement) (contents : Contents) →
+        MapsAscend contents → MapsAscend (run block contents).after.contents }
+    ensures listed { (job : Job) (rows : List Row) (n : ℕ) → MapsAscend (contents_after job rows n) }
+{}
+
+/// A key has the value that it was given, and none once it was removed. All other keys have what they
+/// had.
+pub fn a_key_has_what_it_was_given()
+    ensures put { (key value : ℕ) (pairs : List (ℕ × ℕ)) → value_at key (put_pair key value pairs) ≡ Some value }
+    ensures put_others { (key value other : ℕ) (pairs : List (ℕ × ℕ)) → other ≢ key →
+        value_at other (put_pair key value pairs) ≡ value_at other pairs }
+    ensures delete { (key : ℕ) (pairs : List (ℕ × ℕ)) → KeysAscend pairs →
+        value_at key (delete_pair key pairs) ≡ None }
+    ensures delete_others { (key other : ℕ) (pairs : List (ℕ × ℕ)) → other ≢ key →
+        value_at other (delete_pair key pairs) ≡ value_at other pairs }
 {}
 
 /// The low four bits of the hashes of 1 to 9 are all set, and what stands next to them differs.
