@@ -49,7 +49,7 @@ sum_parts (part ∷ parts) =
     let c = sum_parts parts in
     let d = sum_map part in omega (arith, a, b, c, d)
 
-itself_all : (block : List Statement) → map (λ part. part.itself) (map known block) ≡ block
+pub itself_all : (block : List Statement) → map (λ part. part.itself) (map known block) ≡ block
 itself_all [] = refl
 itself_all (m ∷ block) =
     ap (λ (k : Statement). k ∷ map (λ part. part.itself) (map known block)) (itself-known m)

@@ -4,4 +4,5 @@ pub mod Lates
 pub mod MapLemmas
 pub mod Meaning
 pub mod RowOrder
+pub mod WordLemmas
 pub mod WorkedLemmas

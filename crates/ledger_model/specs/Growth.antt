@@ -39,6 +39,6 @@ pub record SameSizes (before after : State) : Type 0 where
 abbrev pub MapsAscend : Contents → Type 0
 MapsAscend contents = AllByRecursion KeysAscend contents.maps × AllByRecursion KeysAscend contents.slots
 
--- how many numbers were ever printed, totals noted, and handlers registered or run
+-- how many numbers were ever printed, totals noted, handlers registered, and handlers run at undone blocks
 abbrev pub recorded : State → ℕ
 recorded s = length s.trail + length s.totals + length s.hooks + length s.runs

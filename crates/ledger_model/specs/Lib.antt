@@ -9,4 +9,5 @@ pub mod Run
 pub mod Settle
 pub mod Straight
 pub mod Turns
+pub mod Words
 pub mod Worked

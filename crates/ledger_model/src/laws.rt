@@ -4,6 +4,7 @@ ghost use Rattle.stm_model.specs.declared.cause.HookPhase.{HookPhase};
 ghost use Rattle.stm_model.specs.Handlers.{undoing};
 ghost use Rattle.stm_model.specs.Pairs.{KeysAscend};
 ghost use Rattle.stm_model.specs.Telling.{Extends};
+ghost use Rattle.ledger_model.specs.Fits.{JobFits, Places, ScriptFits};
 ghost use Rattle.ledger_model.specs.Growth.{Grows, MapsAscend, Rises, SameSizes, SameUnlessWritten, recorded};
 ghost use Rattle.ledger_model.specs.Maps.{delete_pair, hash, put_pair, value_at};
 ghost use Rattle.ledger_model.specs.declared.job.Contents.{Contents};
@@ -14,6 +15,8 @@ ghost use Rattle.ledger_model.specs.declared.script.Statement.{Statement};
 ghost use Rattle.ledger_model.specs.declared.script.Statement.TheOpen.{Statement-F};
 ghost use Rattle.ledger_model.specs.declared.script.Statement.TheViews.{roll-Statement};
 ghost use Rattle.ledger_model.specs.declared.script.Statement.TheFolds.{map-Statement};
+ghost use Rattle.ledger_model.specs.Words.{HoldsWords, RunsOnWords};
+ghost use Rattle.ledger_model.specs.declared.script.Script.{Script};
 ghost use Rattle.ledger_model.specs.Run.{Kept, Known, State, and_then, known, late_bodies, meaning, run, run_block, start, statement_count, step, undone};
 
 /// A statement does what its step says, with what each statement inside it does in that one's
@@ -33,8 +36,8 @@ pub fn every_late_body_runs()
         and_then (run_block block (start contents)) (late_bodies turns) ≡ run block contents }
 {}
 
-/// All that a run ever prints, the totals that it notes, and the handlers that it registers or runs are
-/// together no more than the script has statements: none runs twice.
+/// All that a run ever prints, the totals that it notes, the handlers that it has registered and those
+/// that ran at undone blocks are together no more than the script has statements.
 pub fn a_run_records_at_most_its_statements()
     ensures { (block : List Statement) (contents : Contents) →
         recorded (run block contents).after ≤ statement_count block }
@@ -55,7 +58,7 @@ pub fn what_is_recorded_stays_in_front()
         (undone before after).runs ≡ after.runs ++ undoing own }
 {}
 
-/// A script that has written nothing at its end leaves the contents that it found.
+/// Where nothing is written at the end of a block or a script, the contents are as it found them.
 pub fn who_writes_nothing_changes_nothing()
     ensures block { (block : List Statement) (s : State) → SameUnlessWritten s (run_block block s).after }
     ensures run { (block : List Statement) (contents : Contents) →
@@ -70,8 +73,8 @@ pub fn no_run_changes_a_size()
         SameSizes (start contents) (run block contents).after }
 {}
 
-/// A map's pairs stand by ascending keys, each key once, at every moment of every run, and in the
-/// contents that a listing's writers leave.
+/// A map's pairs stand by ascending keys, each key once. Setting and removing a key, blocks and whole
+/// runs keep them so, and so they stand in what the writers of a listing leave.
 pub fn maps_ascend_by_their_keys()
     ensures put { (key value : ℕ) (pairs : List (ℕ × ℕ)) → KeysAscend pairs → KeysAscend (put_pair key value pairs) }
     ensures delete { (key : ℕ) (pairs : List (ℕ × ℕ)) → KeysAscend pairs → KeysAscend (delete_pair key pairs) }
@@ -80,6 +83,16 @@ pub fn maps_ascend_by_their_keys()
     ensures run { (block : List Statement) (contents : Contents) →
         MapsAscend contents → MapsAscend (run block contents).after.contents }
     ensures listed { (job : Job) (rows : List Row) (n : ℕ) → MapsAscend (contents_after job rows n) }
+{}
+
+/// A script that is within the limits runs on words: its registers, what it leaves in references, maps
+/// and slots, what it prints, and the tokens of its handlers. So are the contents that the writers of a
+/// listing leave, for a job within the limits.
+pub fn all_numbers_are_words()
+    ensures run { (there : Places) (script : Script) (contents : Contents) →
+        ScriptFits there script → HoldsWords contents → RunsOnWords (run script.block contents).after }
+    ensures listed { (job : Job) (rows : List Row) (n : ℕ) →
+        JobFits job → HoldsWords (contents_after job rows n) }
 {}
 
 /// A key has the value that it was given, and none once it was removed. All other keys have what they
