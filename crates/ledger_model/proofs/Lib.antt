@@ -3,6 +3,7 @@ pub mod Growing
 pub mod Lates
 pub mod MapLemmas
 pub mod Meaning
+pub mod Moments
 pub mod RowOrder
 pub mod WordLemmas
 pub mod WorkedLemmas

@@ -1,108 +1,24 @@
 -- From contents of words a script that fits runs on words.
-use Rattle.std.proofs.Common.{◌≡◌, ◌<◌, ◌+◌, ◌-◌, ◌^◌, ◌%◌, ℕ, zero, suc, Bool, true, false, cond, IsTrue, if◌then◌else◌, ◌&&◌, List, [], ◌∷◌, length, map, drop, filter, reverse, replicate, take, nat_lt, nat_le, nat_eq, is_some, slice_index, slice_set, refl, sym, subst, arith}
-use Rattle.std.specs.Prelude.{Some, unwrap_or}
-use Rattle.std.proofs.lemmas.Grind.{reverse_onto}
+use Rattle.std.proofs.Common.{◌≡◌, ◌+◌, ◌-◌, ◌^◌, ◌%◌, ℕ, zero, suc, Bool, true, false, IsTrue, if◌then◌else◌, ◌&&◌, List, [], ◌∷◌, length, map, replicate, take, nat_lt, nat_le, nat_eq, is_some, slice_index, slice_set, refl, sym, subst, arith}
+use Rattle.std.specs.Prelude.{unwrap_or}
 use Rattle.std.specs.List.{AllByRecursion}
-use Rattle.std.specs.declared.cmp.Ordering.TheVariants.{Less, Equal, Greater}
-use Rattle.std.specs.Ordering.{match_ordering}
-use Rattle.std.proofs.lemmas.Bool.Decides.{nat_tests}
-use Rattle.text_lines.proofs.Lists.{AllByRecursion-append}
-use Rattle.stm_model.specs.declared.cause.HookPhase.{HookPhase}
-use Rattle.stm_model.specs.Handlers.{is_undoing, undoing}
 use Rattle.ledger_model.specs.declared.job.Contents.{Contents}
 use Rattle.ledger_model.specs.declared.job.Job.{Job}
-use Rattle.ledger_model.specs.declared.script.Operand.{Operand}
-use Rattle.ledger_model.specs.declared.script.Operand.TheVariants.{Reg, Number}
 use Rattle.ledger_model.specs.declared.script.Statement.{Statement}
 use Rattle.ledger_model.specs.declared.script.Statement.TheOpen.{Statement-F}
 use Rattle.ledger_model.specs.declared.script.Statement.TheOpen as layer
 use Rattle.ledger_model.specs.declared.script.Statement.TheFolds.{map-Statement, fold-roll-Statement, ind-Statement}
 use Rattle.ledger_model.specs.Fits.{JobFits, OpeningsAscend, Places, ScriptFits, WorkerFits, block_fits, each_fits, each_part_fits, fits, fits_step, fits_word, is_register, is_code, nests, operand_fits, places}
 use Rattle.ledger_model.specs.Maps.{delete_pair, path_allowance, put_pair, value_at}
-use Rattle.ledger_model.specs.Run.{State, Outcome, Meaning, End, Kept, Failed, Retried, Known, kept, and_then, in_turn, nested, undone_unless_kept, undone, caught, or_else, either, move, moved_into, put, delete, share, value_of, ref_at, map_at, slot_at, set_register, set_ref, set_map, set_slot, printed, registered, registered_late, allowed, step, known, meaning, run_block, statement_count, next_late, late_bodies, start, run}
+use Rattle.ledger_model.specs.Run.{State, Outcome, Meaning, End, Kept, Failed, Retried, Known, kept, and_then, in_turn, nested, undone_unless_kept, caught, or_else, either, move, moved_into, put, delete, share, value_of, ref_at, map_at, slot_at, set_register, set_ref, set_map, set_slot, printed, registered, registered_late, allowed, step, known, meaning, run_block, statement_count, next_late, late_bodies, start, run}
 use Rattle.ledger_model.specs.declared.listing.Row.{Row}
 use Rattle.ledger_model.specs.Contents.{opened, opening_contents}
 use Rattle.ledger_model.specs.Replays.{after_writers, block_of, contents_after, left_by, scripts_of, writers_of}
-use Rattle.ledger_model.specs.Words.{ArePairsOfWords, HaveWords, HoldsWords, IsWord, RunsOnWords}
+use Rattle.ledger_model.specs.Words.{ArePairsOfWords, HoldsWords, IsWord, RunsOnWords}
 use Rattle.ledger_model.proofs.Carried.{itself_all}
 use Rattle.ledger_model.proofs.MapLemmas.{All-at, All-replicate, All-set}
 use Rattle.ledger_model.proofs.Meaning.{meaning-roll}
-
--- ---- lists
-
-All-filter : {X : Type 0} (P : X → Type 0) (keep : X → Bool) (list : List X) → AllByRecursion P list → AllByRecursion P (filter keep list)
-All-filter P keep [] h = h
-All-filter P keep (x ∷ list) h = by (keep x) (All-filter P keep list h.1) where
-  by : (kept : Bool) → AllByRecursion P (filter keep list) → AllByRecursion P (cond kept (x ∷ filter keep list) (filter keep list))
-  by true more = (h.0, more)
-  by false more = more
-
-All-drop : {X : Type 0} (P : X → Type 0) (n : ℕ) (list : List X) → AllByRecursion P list → AllByRecursion P (drop n list)
-All-drop P zero list h = h
-All-drop P (suc n) [] h = h
-All-drop P (suc n) (x ∷ list) h = All-drop P n list h.1
-
-All-reverse : {X : Type 0} (P : X → Type 0) (list : List X) → AllByRecursion P list → AllByRecursion P (reverse list)
-All-reverse P [] h = h
-All-reverse P (x ∷ list) h =
-    subst (λ backwards. AllByRecursion P backwards) (sym (reverse_onto list x [])) (AllByRecursion-append P (reverse list) (x ∷ []) (All-reverse P list h.1) (h.0, tt))
-
-undoing_words : (hooks : List (HookPhase × ℕ)) → HaveWords hooks → HaveWords (undoing hooks)
-undoing_words hooks h =
-    All-reverse (λ hook. IsWord hook.1) (filter (λ hook. is_undoing hook.0) hooks) (All-filter (λ hook. IsWord hook.1) (λ hook. is_undoing hook.0) hooks h)
-
--- ---- pairs
-
-put_words : (key value : ℕ) (pairs : List (ℕ × ℕ)) → IsWord key → IsWord value → ArePairsOfWords pairs → ArePairsOfWords (put_pair key value pairs)
-put_words key value [] k v h = ((k, v), tt)
-put_words key value (p ∷ pairs) k v h = by (nat_lt key p.0) (nat_eq key p.0) (put_words key value pairs k v h.1) where
-  by : (first same : Bool) → ArePairsOfWords (put_pair key value pairs)
-      → ArePairsOfWords (match_ordering (cond first Less (cond same Equal Greater)) ((key, value) ∷ p ∷ pairs) ((p.0, value) ∷ pairs) (p ∷ put_pair key value pairs))
-  by true same more = ((k, v), h)
-  by false true more = ((h.0.0, v), h.1)
-  by false false more = (h.0, more)
-
-delete_words : (key : ℕ) (pairs : List (ℕ × ℕ)) → ArePairsOfWords pairs → ArePairsOfWords (delete_pair key pairs)
-delete_words key [] h = h
-delete_words key (p ∷ pairs) h = by (nat_eq key p.0) (delete_words key pairs h.1) where
-  by : (same : Bool) → ArePairsOfWords (delete_pair key pairs) → ArePairsOfWords (cond same pairs (p ∷ delete_pair key pairs))
-  by true more = h.1
-  by false more = (h.0, more)
-
-found_word : (key other : ℕ) (pairs : List (ℕ × ℕ)) → IsWord other → ArePairsOfWords pairs → IsWord (unwrap_or (value_at key pairs) other)
-found_word key other [] o h = o
-found_word key other (p ∷ pairs) o h = by (nat_eq key p.0) (found_word key other pairs o h.1) where
-  by : (same : Bool) → IsWord (unwrap_or (value_at key pairs) other) → IsWord (unwrap_or (cond same (Some p.1) (value_at key pairs)) other)
-  by true more = h.0.1
-  by false more = more
-
--- ---- tests
-
-both : (a b : Bool) → IsTrue (a && b) → IsTrue a × IsTrue b
-both true b h = (refl, h)
-both false b h = cc
-
-below : (n limit : ℕ) → IsTrue (nat_lt n limit) → n < limit
-below n limit h = grind (arith, nat_tests)
-
-code_word : (code : ℕ) → IsTrue (is_code code) → IsWord code
-code_word code h = let less = below code (2 ^ 16) (both (nat_lt 0 code) (nat_lt code (2 ^ 16)) h).1 in omega (arith, less)
-
--- what fits one level deeper fits some level
-nests_inside : (left : ℕ) (inside : ℕ → Bool) → IsTrue (nests left inside) → (less : ℕ) × IsTrue (inside less)
-nests_inside zero inside h = cc
-nests_inside (suc left) inside h = (left, h)
-
--- ---- moments
-
--- a before-commit body whose statements fit
-abbrev FitsLate : Places → List Statement → Type 0
-FitsLate p body = (left : ℕ) × IsTrue (block_fits p left body)
-
--- a moment of words, whose before-commit bodies fit
-record Moment (p : Places) (s : State) : Type 0 where
-  words : RunsOnWords s
-  lates : AllByRecursion (FitsLate p) s.lates
+use Rattle.ledger_model.proofs.Moments.{Moment, FitsLate, both, below, code_word, nests_inside, put_words, delete_words, found_word, register, ref, pairs, slot, allow, print, hook, late, back, value, ref_word, map_words, slot_words}
 
 -- a code is a word
 EndFits : End → Type 0
@@ -111,111 +27,6 @@ EndFits (Failed code) = IsWord code
 EndFits Retried = Unit {0}
 
 module _ (p : Places) where
-  register : (r n : ℕ) (s : State) → IsWord n → Moment p s → Moment p (set_register r n s)
-  register r n s word h =
-      let w = h.words in
-      record {
-        words = record { registers = All-set IsWord s.registers r n w.registers word; contents = w.contents; prints = w.prints; trail = w.trail; hooks = w.hooks; runs = w.runs };
-        lates = h.lates;
-      }
-
-  -- with other contents
-  holding : (contents : Contents) (wrote : Bool) (s : State) → HoldsWords contents → Moment p s → Moment p (record s { contents = contents; wrote = wrote })
-  holding contents wrote s words h =
-      let w = h.words in
-      record { words = record { registers = w.registers; contents = words; prints = w.prints; trail = w.trail; hooks = w.hooks; runs = w.runs }; lates = h.lates }
-
-  ref : (cell n : ℕ) (s : State) → IsWord n → Moment p s → Moment p (set_ref cell n s)
-  ref cell n s word h =
-      let c = h.words.contents in
-      holding (record s.contents { refs = slice_set s.contents.refs cell n }) true s (record { refs = All-set IsWord s.contents.refs cell n c.refs word; maps = c.maps; slots = c.slots }) h
-
-  pairs : (m : ℕ) (list : List (ℕ × ℕ)) (s : State) → ArePairsOfWords list → Moment p s → Moment p (set_map m list s)
-  pairs m list s words h =
-      let c = h.words.contents in
-      holding (record s.contents { maps = slice_set s.contents.maps m list }) true s (record { refs = c.refs; maps = All-set ArePairsOfWords s.contents.maps m list c.maps words; slots = c.slots }) h
-
-  slot : (k : ℕ) (list : List (ℕ × ℕ)) (s : State) → ArePairsOfWords list → Moment p s → Moment p (set_slot k list s)
-  slot k list s words h =
-      let c = h.words.contents in
-      holding (record s.contents { slots = slice_set s.contents.slots k list }) true s (record { refs = c.refs; maps = c.maps; slots = All-set ArePairsOfWords s.contents.slots k list c.slots words }) h
-
-  allow : (n : ℕ) (s : State) → Moment p s → Moment p (allowed n s)
-  allow n s h =
-      let w = h.words in
-      record { words = record { registers = w.registers; contents = w.contents; prints = w.prints; trail = w.trail; hooks = w.hooks; runs = w.runs }; lates = h.lates }
-
-  print : (n : ℕ) (s : State) → IsWord n → Moment p s → Moment p (printed n s)
-  print n s word h =
-      let w = h.words in
-      record {
-        words = record {
-          registers = w.registers;
-          contents = w.contents;
-          prints = AllByRecursion-append IsWord s.prints (n ∷ []) w.prints (word, tt);
-          trail = AllByRecursion-append IsWord s.trail (n ∷ []) w.trail (word, tt);
-          hooks = w.hooks;
-          runs = w.runs;
-        };
-        lates = h.lates;
-      }
-
-  hook : (phase : HookPhase) (token : ℕ) (s : State) → IsWord token → Moment p s → Moment p (registered phase token s)
-  hook phase token s word h =
-      let w = h.words in
-      record {
-        words = record {
-          registers = w.registers;
-          contents = w.contents;
-          prints = w.prints;
-          trail = w.trail;
-          hooks = AllByRecursion-append (λ hook. IsWord hook.1) s.hooks ((phase, token) ∷ []) w.hooks (word, tt);
-          runs = w.runs;
-        };
-        lates = h.lates;
-      }
-
-  late : (body : List Statement) (s : State) → FitsLate p body → Moment p s → Moment p (registered_late body s)
-  late body s fit h =
-      let w = h.words in
-      record {
-        words = record { registers = w.registers; contents = w.contents; prints = w.prints; trail = w.trail; hooks = w.hooks; runs = w.runs };
-        lates = AllByRecursion-append (FitsLate p) s.lates (body ∷ []) h.lates (fit, tt);
-      }
-
-  back : (s t : State) → Moment p s → Moment p t → Moment p (undone s t)
-  back s t h g =
-      let w = h.words in
-      let v = g.words in
-      let own : List (HookPhase × ℕ) = drop (length s.hooks) t.hooks in
-      record {
-        words = record {
-          registers = w.registers;
-          contents = w.contents;
-          prints = w.prints;
-          trail = v.trail;
-          hooks = w.hooks;
-          runs =
-              AllByRecursion-append (λ hook. IsWord hook.1) t.runs (undoing own) v.runs (undoing_words own (All-drop (λ hook. IsWord hook.1) (length s.hooks) t.hooks v.hooks));
-        };
-        lates = h.lates;
-      }
-
-  -- ---- values
-
-  value : (x : Operand) (s : State) → IsTrue (operand_fits x) → Moment p s → IsWord (value_of x s)
-  value (Reg r) s fit h = All-at IsWord s.registers r 0 h.words.registers (omega arith)
-  value (Number n) s fit h = below n (2 ^ 64) fit
-
-  ref_word : (cell : ℕ) (s : State) → Moment p s → IsWord (ref_at cell s)
-  ref_word cell s h = All-at IsWord s.contents.refs cell 0 h.words.contents.refs (omega arith)
-
-  map_words : (m : ℕ) (s : State) → Moment p s → ArePairsOfWords (map_at m s)
-  map_words m s h = All-at ArePairsOfWords s.contents.maps m [] h.words.contents.maps tt
-
-  slot_words : (k : ℕ) (s : State) → Moment p s → ArePairsOfWords (slot_at k s)
-  slot_words k s h = All-at ArePairsOfWords s.contents.slots k [] h.words.contents.slots tt
-
   -- ---- parts
 
   -- a moment of words, and a code that is one
@@ -243,15 +54,15 @@ module _ (p : Places) where
   unless_kept s o g h = by_end o.end o.after h.0 h.1 where
     by_end : (end : End) (after : State) → Moment p after → EndFits end → To (undone_unless_kept s (record { end = end; after = after }))
     by_end Kept after h none = (h, none)
-    by_end (Failed code) after h word = (back s after g h, word)
-    by_end Retried after h none = (back s after g h, none)
+    by_end (Failed code) after h word = (back p s after g h, word)
+    by_end Retried after h none = (back p s after g h, none)
 
   catches : (r : ℕ) (o : Outcome) → To o → To (caught r o)
   unfolding To EndFits
   catches r o h = by_end o.end o.after h.0 h.1 where
     by_end : (end : End) (after : State) → Moment p after → EndFits end → To (caught r (record { end = end; after = after }))
-    by_end Kept after h none = (register r 0 after (omega arith) h, none)
-    by_end (Failed code) after h word = (register r code after word h, tt)
+    by_end Kept after h none = (register p r 0 after (omega arith) h, none)
+    by_end (Failed code) after h word = (register p r code after word h, tt)
     by_end Retried after h none = (h, none)
 
   keeps : (s : State) → Moment p s → To (kept s)
@@ -276,14 +87,14 @@ module _ (p : Places) where
   gives into n s h = by (nat_lt (ref_at into s + n) (2 ^ 64)) refl where
     by : (b : Bool) → nat_lt (ref_at into s + n) (2 ^ 64) ≡ b
         → To (if b then kept (set_ref into (ref_at into s + n) s) else record { end = Failed 2; after = s })
-    by true is = keeps (set_ref into (ref_at into s + n) s) (ref into (ref_at into s + n) s (below (ref_at into s + n) (2 ^ 64) is) h)
+    by true is = keeps (set_ref into (ref_at into s + n) s) (ref p into (ref_at into s + n) s (below (ref_at into s + n) (2 ^ 64) is) h)
     by false is = fails 2 s (omega arith) h
 
   moves : (from into n : ℕ) (s : State) → Moment p s → To (move from into n s)
   moves from into n s h =
-      let word = ref_word from s h in
+      let word = ref_word p from s h in
       by_test (nat_lt (ref_at from s) n) (record { end = Failed 1; after = s }) (moved_into into n (set_ref from (ref_at from s - n) s)) (fails 1 s (omega arith) h)
-      (gives into n (set_ref from (ref_at from s - n) s) (ref from (ref_at from s - n) s (omega (arith, word)) h))
+      (gives into n (set_ref from (ref_at from s - n) s) (ref p from (ref_at from s - n) s (omega (arith, word)) h))
 
   either_state : (b : Bool) (t u : State) → Moment p t → Moment p u → Moment p (if b then t else u)
   either_state true t u h g = h
@@ -292,15 +103,15 @@ module _ (p : Places) where
   deletes : (m key : ℕ) (s : State) → Moment p s → Moment p (delete m key s)
   deletes m key s h =
       let t : State = allowed (path_allowance key (map_at m s)) s in
-      let now : Moment p t = allow (path_allowance key (map_at m s)) s h in
+      let now : Moment p t = allow p (path_allowance key (map_at m s)) s h in
       either_state (is_some (value_at key (map_at m s))) (set_map m (delete_pair key (map_at m s)) t) t
-      (pairs m (delete_pair key (map_at m s)) t (delete_words key (map_at m s) (map_words m s h)) now) now
+      (pairs p m (delete_pair key (map_at m s)) t (delete_words key (map_at m s) (map_words p m s h)) now) now
 
   shares : (from into : ℕ) (s : State) → Moment p s → Moment p (share from into s)
   shares from into s h =
       let t : State = allowed 2 s in
-      let now : Moment p t = allow 2 s h in
-      either_state (nat_eq from into) t (set_map into (map_at from s) t) now (pairs into (map_at from s) t (map_words from s h) now)
+      let now : Moment p t = allow p 2 s h in
+      either_state (nat_eq from into) t (set_map into (map_at from s) t) now (pairs p into (map_at from s) t (map_words p from s h) now)
 
   -- ---- statements that are known to keep words
 
@@ -332,15 +143,15 @@ module _ (p : Places) where
 
   layers : (y : Statement-F One) (left : ℕ) → IsTrue (fits_step p (map-Statement Statement (ℕ → Bool) (fits p) (map-Statement One Statement plain y)) left) → (s : State) → Moment p s
       → To (step (map-Statement Statement Known known (map-Statement One Statement plain y)) s)
-  layers (layer.Const r n) left fit s h = keeps (set_register r n s) (register r n s (below n (2 ^ 64) (both (is_register r) (fits_word n) fit).1) h)
-  layers (layer.Read r cell) left fit s h = keeps (set_register r (ref_at cell s) s) (register r (ref_at cell s) s (ref_word cell s h) h)
+  layers (layer.Const r n) left fit s h = keeps (set_register r n s) (register p r n s (below n (2 ^ 64) (both (is_register r) (fits_word n) fit).1) h)
+  layers (layer.Read r cell) left fit s h = keeps (set_register r (ref_at cell s) s) (register p r (ref_at cell s) s (ref_word p cell s h) h)
   layers (layer.Write cell x) left fit s h =
-      keeps (set_ref cell (value_of x s) s) (ref cell (value_of x s) s (value x s (both (nat_lt cell p.refs) (operand_fits x) fit).1 h) h)
+      keeps (set_ref cell (value_of x s) s) (ref p cell (value_of x s) s (value p x s (both (nat_lt cell p.refs) (operand_fits x) fit).1 h) h)
   layers (layer.Add r x) left fit s h =
-      let n : ℕ = (slice_index s.registers r + value_of x s) % 2 ^ 64 in keeps (set_register r n s) (register r n s (omega arith) h)
+      let n : ℕ = (slice_index s.registers r + value_of x s) % 2 ^ 64 in keeps (set_register r n s) (register p r n s (omega arith) h)
   layers (layer.Sub r x) left fit s h =
-      let n : ℕ = (slice_index s.registers r + (2 ^ 64 - value_of x s)) % 2 ^ 64 in keeps (set_register r n s) (register r n s (omega arith) h)
-  layers (layer.Print x) left fit s h = keeps (printed (value_of x s) s) (print (value_of x s) s (value x s fit h) h)
+      let n : ℕ = (slice_index s.registers r + (2 ^ 64 - value_of x s)) % 2 ^ 64 in keeps (set_register r n s) (register p r n s (omega arith) h)
+  layers (layer.Print x) left fit s h = keeps (printed (value_of x s) s) (print p (value_of x s) s (value p x s fit h) h)
   layers (layer.Check x y code) left fit s h =
       by_test (nat_lt (value_of x s) (value_of y s)) (record { end = Failed code; after = s }) (kept s) (fails code s (code_word code (both (operand_fits x && operand_fits y) (is_code code) fit).1) h) (keeps s h)
   layers (layer.Need x y) left fit s h =
@@ -356,26 +167,26 @@ module _ (p : Places) where
       let body : List Statement = map (λ part. part.itself) (map known (map plain block)) in
       let less = nests_inside left (λ inside. each_fits inside (map (fits p) (map plain block))) fit in
       let same : IsTrue (block_fits p less.0 body) = subst (λ (b : List Statement). IsTrue (block_fits p less.0 b)) (sym (itself_all (map plain block))) less.1 in
-      keeps (registered_late body s) (late body s (less.0, same) h)
-  layers (layer.Hook phase token) left fit s h = keeps (registered phase token s) (hook phase token s (below token (2 ^ 64) fit) h)
+      keeps (registered_late body s) (late p body s (less.0, same) h)
+  layers (layer.Hook phase token) left fit s h = keeps (registered phase token s) (hook p phase token s (below token (2 ^ 64) fit) h)
   layers (layer.Put m x y) left fit s h =
       let split = both (nat_lt m p.maps && operand_fits x) (operand_fits y) fit in
-      let key : IsWord (value_of x s) = value x s (both (nat_lt m p.maps) (operand_fits x) split.0).1 h in
-      let set : IsWord (value_of y s) = value y s split.1 h in
+      let key : IsWord (value_of x s) = value p x s (both (nat_lt m p.maps) (operand_fits x) split.0).1 h in
+      let set : IsWord (value_of y s) = value p y s split.1 h in
       let t : State = allowed (path_allowance (value_of x s) (map_at m s)) s in
       keeps (put m (value_of x s) (value_of y s) s)
-      (pairs m (put_pair (value_of x s) (value_of y s) (map_at m s)) t (put_words (value_of x s) (value_of y s) (map_at m s) key set (map_words m s h)) (allow (path_allowance (value_of x s) (map_at m s)) s h))
+      (pairs p m (put_pair (value_of x s) (value_of y s) (map_at m s)) t (put_words (value_of x s) (value_of y s) (map_at m s) key set (map_words p m s h)) (allow p (path_allowance (value_of x s) (map_at m s)) s h))
   layers (layer.Del m x) left fit s h = keeps (delete m (value_of x s) s) (deletes m (value_of x s) s h)
   layers (layer.Look r m x y) left fit s h =
       let n : ℕ = unwrap_or (value_at (value_of x s) (map_at m s)) (value_of y s) in
-      let other : IsWord (value_of y s) = value y s (both (is_register r && nat_lt m p.maps && operand_fits x) (operand_fits y) fit).1 h in
-      keeps (set_register r n s) (register r n s (found_word (value_of x s) (value_of y s) (map_at m s) other (map_words m s h)) h)
+      let other : IsWord (value_of y s) = value p y s (both (is_register r && nat_lt m p.maps && operand_fits x) (operand_fits y) fit).1 h in
+      keeps (set_register r n s) (register p r n s (found_word (value_of x s) (value_of y s) (map_at m s) other (map_words p m s h)) h)
   layers (layer.LookSlot r k x y) left fit s h =
       let n : ℕ = unwrap_or (value_at (value_of x s) (slot_at k s)) (value_of y s) in
-      let other : IsWord (value_of y s) = value y s (both (is_register r && nat_lt k p.snaps && operand_fits x) (operand_fits y) fit).1 h in
-      keeps (set_register r n s) (register r n s (found_word (value_of x s) (value_of y s) (slot_at k s) other (slot_words k s h)) h)
+      let other : IsWord (value_of y s) = value p y s (both (is_register r && nat_lt k p.snaps && operand_fits x) (operand_fits y) fit).1 h in
+      keeps (set_register r n s) (register p r n s (found_word (value_of x s) (value_of y s) (slot_at k s) other (slot_words p k s h)) h)
   layers (layer.Snap k m) left fit s h =
-      keeps (set_slot k (map_at m s) (allowed 1 s)) (slot k (map_at m s) (allowed 1 s) (map_words m s h) (allow 1 s h))
+      keeps (set_slot k (map_at m s) (allowed 1 s)) (slot p k (map_at m s) (allowed 1 s) (map_words p m s h) (allow p 1 s h))
   layers (layer.Share from into) left fit s h = keeps (share from into s) (shares from into s h)
 
   statement : (m : Statement) → Is m

@@ -1,5 +1,5 @@
 -- Scripts that are worked out, in the words of the job language.
-use Rattle.std.specs.Prelude.{ℕ, ◌+◌, ◌-◌, ◌^◌, List, [], ◌∷◌, ◌++◌, replicate}
+use Rattle.std.specs.Prelude.{ℕ, ◌+◌, ◌-◌, ◌^◌, List, [], ◌∷◌, replicate}
 use Rattle.stm_model.specs.declared.cause.HookPhase.{HookPhase}
 use Rattle.stm_model.specs.declared.cause.HookPhase.TheVariants.{Preparing, Committing, Commit, Rollback, Completion}
 use Rattle.ledger_model.specs.declared.job.Contents.{Contents}
@@ -219,22 +219,15 @@ late_parts =
 
 -- ---- maps
 
--- numbered values for keys of map 0
-abbrev pub puts : List ℕ → ℕ → List Statement
-puts [] value = []
-puts (key ∷ keys) value = put 0 (Number key) (Number value) ∷ puts keys (value + 1)
-
--- k * 2 ^ 32 and a number below that: both halves of each, taken together, are those of 1
-abbrev pub keys_of_one_hash : List ℕ
-keys_of_one_hash = 1 ∷ 4294967296 ∷ 8589934595 ∷ 12884901890 ∷ 17179869189 ∷ 21474836484 ∷ 25769803783 ∷ 30064771078 ∷ 34359738377 ∷ []
-
--- nine keys of one hash, and then one of them set again and one removed
+-- Nine keys of one hash: the two halves of each, taken together, are those of 1. Then one of them is set again and one removed.
 abbrev pub one_hash : List Statement
 one_hash =
-    puts keys_of_one_hash 10 ++ (
+    put 0 (Number 1) (Number 10) ∷ put 0 (Number 4294967296) (Number 11) ∷ put 0 (Number 8589934595) (Number 12) ∷
+    put 0 (Number 12884901890) (Number 13) ∷ put 0 (Number 17179869189) (Number 14) ∷ put 0 (Number 21474836484) (Number 15) ∷
+    put 0 (Number 25769803783) (Number 16) ∷ put 0 (Number 30064771078) (Number 17) ∷ put 0 (Number 34359738377) (Number 18) ∷
     put 0 (Number 1) (Number 50) ∷ del 0 (Number 4294967296) ∷
     look 0 0 (Number 1) (Number 0) ∷ print (Reg 0) ∷
-    look 1 0 (Number 4294967296) (Number 99) ∷ print (Reg 1) ∷ [])
+    look 1 0 (Number 4294967296) (Number 99) ∷ print (Reg 1) ∷ []
 
 -- the greatest key, the least one, and keys that differ in their upper halves alone
 abbrev pub far_keys : List Statement

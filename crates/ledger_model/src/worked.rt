@@ -80,16 +80,22 @@ pub fn retries_leave_blocks_and_failures_leave_parts()
 pub fn handlers_run_by_how_the_script_is_settled()
     ensures commits { let o = on_refs (0 ∷ []) handlers_of_a_writer in
         (settled 8 o ≡ Commits) ×
-        (runs_after 8 o ≡ (Rollback, 14) ∷ (Completion, 12) ∷ (Rollback, 11) ∷ (Preparing, 5) ∷ (Preparing, 7) ∷ (Committing, 4) ∷ (Completion, 2) ∷ (Commit, 3) ∷ (Completion, 6) ∷ (Commit, 15) ∷ []) }
+        (runs_after 8 o ≡ (Rollback, 14) ∷ (Completion, 12) ∷ (Rollback, 11) ∷
+        (Preparing, 5) ∷ (Preparing, 7) ∷ (Committing, 4) ∷
+        (Completion, 2) ∷ (Commit, 3) ∷ (Completion, 6) ∷ (Commit, 15) ∷ []) }
     ensures reads { let o = on_refs (0 ∷ []) (handlers []) in
         (settled 8 o ≡ OnlyReads) ×
-        (runs_after 8 o ≡ (Rollback, 14) ∷ (Completion, 12) ∷ (Rollback, 11) ∷ (Preparing, 5) ∷ (Preparing, 7) ∷ (Committing, 4) ∷ (Completion, 2) ∷ (Commit, 3) ∷ (Completion, 6) ∷ (Commit, 15) ∷ []) }
+        (runs_after 8 o ≡ (Rollback, 14) ∷ (Completion, 12) ∷ (Rollback, 11) ∷
+        (Preparing, 5) ∷ (Preparing, 7) ∷ (Committing, 4) ∷
+        (Completion, 2) ∷ (Commit, 3) ∷ (Completion, 6) ∷ (Commit, 15) ∷ []) }
     ensures spends { let o = on_refs (0 ∷ []) handlers_of_a_writer in
         (settled 9 o ≡ Spends) ×
-        (runs_after 9 o ≡ (Rollback, 14) ∷ (Completion, 12) ∷ (Rollback, 11) ∷ (Preparing, 5) ∷ (Preparing, 7) ∷ (Completion, 6) ∷ (Completion, 2) ∷ (Rollback, 1) ∷ []) }
+        (runs_after 9 o ≡ (Rollback, 14) ∷ (Completion, 12) ∷ (Rollback, 11) ∷
+        (Preparing, 5) ∷ (Preparing, 7) ∷ (Completion, 6) ∷ (Completion, 2) ∷ (Rollback, 1) ∷ []) }
     ensures fails { let o = on_refs (0 ∷ []) (handlers (check (Number 0) (Number 1) 4 ∷ [])) in
         (settled 9 o ≡ Fails 4) ×
-        (runs_after 9 o ≡ (Rollback, 14) ∷ (Completion, 12) ∷ (Rollback, 11) ∷ (Completion, 6) ∷ (Completion, 2) ∷ (Rollback, 1) ∷ []) }
+        (runs_after 9 o ≡ (Rollback, 14) ∷ (Completion, 12) ∷ (Rollback, 11) ∷
+        (Completion, 6) ∷ (Completion, 2) ∷ (Rollback, 1) ∷ []) }
     ensures retries { let o = on_refs (0 ∷ []) (handlers (need (Number 0) (Number 1) ∷ [])) in
         (settled 9 o ≡ Retries) × (runs_after 9 o ≡ []) }
 {}
@@ -117,7 +123,8 @@ pub fn a_late_body_ends_the_script()
 pub fn keys_of_one_hash_are_apart()
     ensures prints { (on_maps 1 0 one_hash).after.prints ≡ 50 ∷ 99 ∷ [] }
     ensures pairs { (on_maps 1 0 one_hash).after.contents.maps ≡
-        ((1, 50) ∷ (8589934595, 12) ∷ (12884901890, 13) ∷ (17179869189, 14) ∷ (21474836484, 15) ∷ (25769803783, 16) ∷ (30064771078, 17) ∷ (34359738377, 18) ∷ []) ∷ [] }
+        ((1, 50) ∷ (8589934595, 12) ∷ (12884901890, 13) ∷ (17179869189, 14) ∷
+        (21474836484, 15) ∷ (25769803783, 16) ∷ (30064771078, 17) ∷ (34359738377, 18) ∷ []) ∷ [] }
     ensures totals { (on_maps 1 0 one_hash).after.totals ≡
         18 ∷ 37 ∷ 57 ∷ 78 ∷ 100 ∷ 123 ∷ 147 ∷ 172 ∷ 198 ∷ 225 ∷ 252 ∷ [] }
 {}
@@ -150,7 +157,7 @@ pub fn undone_operations_keep_their_totals()
 
 /// A write of the same value counts, and so do a snapshot and a share of an empty map. What is
 /// undone doesn't count, nor does the removal of a key that isn't there, nor a map that is shared
-/// with itself. These two may still draw blocks.
+/// with itself. The last two note their totals all the same.
 pub fn what_counts_as_a_write()
     ensures same { let o = on_refs (4 ∷ []) same_value in (settled 0 o ≡ Commits) × (o.after.contents.refs ≡ 4 ∷ []) }
     ensures snap { settled 0 (on_maps 1 1 (snap 0 0 ∷ [])) ≡ Commits }
