@@ -1,5 +1,5 @@
 -- What a run only adds to, and what it leaves as it was.
-use Rattle.std.proofs.Common.{◌≡◌, ◌<◌, ◌+◌, ◌-◌, ℕ, zero, suc, false, List, [], ◌∷◌, ◌++◌, length, drop, take, slice_index, refl, ap, sym, subst, ◌∙◌, arith, append_assoc}
+use Rattle.std.proofs.Common.{◌≡◌, ◌<◌, ◌+◌, ◌-◌, ℕ, zero, suc, false, List, [], ◌∷◌, ◌++◌, length, drop, slice_index, refl, ap, sym, subst, ◌∙◌, arith, append_assoc}
 use Rattle.std.proofs.lemmas.List.{append-nil, length-set}
 use Rattle.std.proofs.Math.Seq.{drop-append_seam}
 use Rattle.stm_model.specs.declared.cause.HookPhase.{HookPhase}
@@ -8,15 +8,11 @@ use Rattle.stm_model.specs.Telling.{Extends}
 use Rattle.stm_model.proofs.CellsLemmas.{Extends-refl, Extends-append, Extends-trans}
 use Rattle.ledger_model.specs.declared.job.Contents.{Contents}
 use Rattle.ledger_model.specs.declared.script.Statement.{Statement}
-use Rattle.ledger_model.specs.declared.job.Job.{Job}
-use Rattle.ledger_model.specs.declared.listing.Row.{Row}
-use Rattle.ledger_model.specs.Contents.{opening_contents}
-use Rattle.ledger_model.specs.Replays.{after_writers, block_of, contents_after, left_by, writers_of}
 use Rattle.ledger_model.specs.Growth.{Grows, Rises, SameSizes, SameUnlessWritten, MapsAscend, TotalsRise}
 use Rattle.ledger_model.specs.Run.{State, Outcome, Meaning, End, Kept, Failed, Retried, allowance, and_then, map_at, printed, registered, set_map, run_block, meaning, undone, late_bodies, next_late, start, run, statement_count}
 use Rattle.ledger_model.specs.Maps.{delete_pair, put_pair}
 use Rattle.stm_model.specs.Pairs.{KeysAscend}
-use Rattle.ledger_model.proofs.MapLemmas.{All-at, All-replicate, All-set, KeysAscend-delete, KeysAscend-put}
+use Rattle.ledger_model.proofs.MapLemmas.{All-at, All-set, KeysAscend-delete, KeysAscend-put}
 use Rattle.ledger_model.proofs.Carried.{Carried}
 use Rattle.ledger_model.proofs.Carried as carried
 
@@ -297,15 +293,3 @@ run_ascend = whole Ascend ascend (λ s rest maps. maps)
 pub own_handlers : (before after : State) (own : List (HookPhase × ℕ)) → after.hooks ≡ before.hooks ++ own → (undone before after).runs ≡ after.runs ++ undoing own
 own_handlers before after own is =
     ap (λ hooks. after.runs ++ undoing hooks) (ap (drop (length before.hooks)) is ∙ drop-append_seam before.hooks own)
-
--- ---- the contents of a listing
-
-opening_ascend : (job : Job) → MapsAscend (opening_contents job)
-opening_ascend job = (All-replicate KeysAscend job.maps [] tt, All-replicate KeysAscend job.snaps [] tt)
-
-writers_ascend : (job : Job) (rows : List Row) (contents : Contents) → MapsAscend contents → MapsAscend (after_writers job rows contents)
-writers_ascend job [] contents maps = maps
-writers_ascend job (row ∷ rows) contents maps = writers_ascend job rows (left_by job row contents) (run_ascend (block_of job row.worker row.number) contents maps)
-
-pub listed_ascend : (job : Job) (rows : List Row) (n : ℕ) → MapsAscend (contents_after job rows n)
-listed_ascend job rows n = writers_ascend job (take n (writers_of rows)) (opening_contents job) (opening_ascend job)

@@ -1,6 +1,7 @@
 pub mod Carried
 pub mod Growing
 pub mod Lates
+pub mod Listed
 pub mod MapLemmas
 pub mod Meaning
 pub mod Moments

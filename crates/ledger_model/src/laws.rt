@@ -1,5 +1,5 @@
 //! The laws of running, and worked hashes. Each function does nothing: its clauses are theorems.
-ghost use Rattle.std.specs.Prelude.{◌≡◌, ◌≢◌, ◌≤◌, ◌/◌, ◌%◌, ℕ, false, List, [], ◌∷◌, ◌++◌, map, Some, None};
+ghost use Rattle.std.specs.Prelude.{◌≡◌, ◌≢◌, ◌≤◌, ◌/◌, ◌%◌, ℕ, false, List, [], ◌∷◌, ◌++◌, length, map, Some, None};
 ghost use Rattle.stm_model.specs.declared.cause.HookPhase.{HookPhase};
 ghost use Rattle.stm_model.specs.Handlers.{undoing};
 ghost use Rattle.stm_model.specs.Pairs.{KeysAscend};
@@ -66,11 +66,13 @@ pub fn who_writes_nothing_changes_nothing()
 {}
 
 /// No run changes how many registers, references, maps and slots there are, or how many blocks are in
-/// use.
+/// use. So the writers of a listing leave as many as the job has.
 pub fn no_run_changes_a_size()
     ensures block { (block : List Statement) (s : State) → SameSizes s (run_block block s).after }
     ensures run { (block : List Statement) (contents : Contents) →
         SameSizes (start contents) (run block contents).after }
+    ensures listed { (job : Job) (rows : List Row) (n : ℕ) → let left = contents_after job rows n in
+        (length left.refs ≡ job.refs) × (length left.maps ≡ job.maps) × (length left.slots ≡ job.snaps) }
 {}
 
 /// A map's pairs stand by ascending keys, each key once. Setting and removing a key, blocks and whole

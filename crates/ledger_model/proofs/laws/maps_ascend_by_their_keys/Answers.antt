@@ -1,4 +1,5 @@
-use Rattle.ledger_model.proofs.Growing.{block_ascend, listed_ascend, run_ascend}
+use Rattle.ledger_model.proofs.Growing.{block_ascend, run_ascend}
+use Rattle.ledger_model.proofs.Listed.{listed_ascend}
 use Rattle.ledger_model.proofs.MapLemmas.{KeysAscend-delete, KeysAscend-put}
 use Rattle.ledger_model.proofs.laws.maps_ascend_by_their_keys.Goals as goal
 
