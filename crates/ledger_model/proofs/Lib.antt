@@ -1,2 +1,10 @@
+pub mod Carried
+pub mod Growing
+pub mod Lates
+pub mod Listed
+pub mod MapLemmas
 pub mod Meaning
+pub mod Moments
 pub mod RowOrder
+pub mod WordLemmas
+pub mod WorkedLemmas

@@ -1,5 +1,6 @@
 pub mod Contents
 pub mod Fits
+pub mod Growth
 pub mod Maps
 pub mod Order
 pub mod Replays
@@ -8,3 +9,5 @@ pub mod Run
 pub mod Settle
 pub mod Straight
 pub mod Turns
+pub mod Words
+pub mod Worked

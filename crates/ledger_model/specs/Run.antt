@@ -1,5 +1,5 @@
 -- What a script does, run alone on plain contents.
-use Rattle.std.specs.Prelude.{ℕ, zero, suc, ◌+◌, ◌-◌, ◌%◌, ◌^◌, Bool, true, false, nat_eq, nat_lt, if◌then◌else◌, List, [], ◌∷◌, ◌++◌, length, map, filter, replicate, drop, slice_index, slice_index_or, slice_set, unwrap_or, is_some, sum, sum_by}
+use Rattle.std.specs.Prelude.{ℕ, zero, suc, ◌+◌, ◌-◌, ◌%◌, ◌^◌, Bool, true, false, nat_eq, nat_lt, if◌then◌else◌, List, [], ◌∷◌, ◌++◌, length, map, replicate, drop, slice_index, slice_index_or, slice_set, unwrap_or, is_some, sum, sum_by}
 use Rattle.stm_model.specs.declared.cause.HookPhase.{HookPhase}
 use Rattle.stm_model.specs.Handlers.{undoing}
 use Rattle.ledger_model.specs.declared.job.Contents.{Contents}
@@ -29,7 +29,7 @@ pub record State : Type 0 where
   pub trail : List ℕ
   -- the handlers registered
   pub hooks : List (HookPhase × ℕ)
-  -- the bodies that are to run after the script
+  -- the before-commit bodies that are still to run
   pub lates : List (List Statement)
   -- the handlers that ran at undone blocks
   pub runs : List (HookPhase × ℕ)
@@ -81,8 +81,8 @@ printed n s = record s { prints = s.prints ++ n ∷ []; trail = s.trail ++ n ∷
 abbrev pub registered : HookPhase → ℕ → State → State
 registered phase token s = record s { hooks = s.hooks ++ (phase, token) ∷ [] }
 
-abbrev pub put_off : List Statement → State → State
-put_off body s = record s { lates = s.lates ++ body ∷ [] }
+abbrev pub registered_late : List Statement → State → State
+registered_late body s = record s { lates = s.lates ++ body ∷ [] }
 
 -- ---- allowances
 
@@ -173,7 +173,7 @@ step (Need x y) s = if nat_lt (value_of x s) (value_of y s) then record { end = 
 step (Move from into x) s = move from into (value_of x s) s
 step (Inner r block) s = caught r (nested block s)
 step (Either parts) s = either parts s
-step (Late block) s = kept (put_off (map (λ part. part.itself) block) s)
+step (Late block) s = kept (registered_late (map (λ part. part.itself) block) s)
 step (Hook phase token) s = kept (registered phase token s)
 step (Put m x y) s = kept (put m (value_of x s) (value_of y s) s)
 step (Del m x) s = kept (delete m (value_of x s) s)
@@ -208,12 +208,12 @@ count_step _ = 1
 abbrev pub statement_count : List Statement → ℕ
 statement_count block = sum_by (fold-Statement ℕ count_step) block
 
--- the first body that was put off, and then the rest of the run
+-- the before-commit body that was registered first, and then the rest of the run
 abbrev pub next_late : Meaning → State → List (List Statement) → Outcome
 next_late later s [] = kept s
 next_late later s (body ∷ rest) = and_then (run_block body (record s { lates = rest })) later
 
--- The bodies that were put off, in order of registration, at most `turns` of them. A body may put off more.
+-- The before-commit bodies in order of registration, at most `turns` of them. A body may register more.
 unfoldable pub late_bodies : ℕ → Meaning
 late_bodies zero s = kept s
 late_bodies (suc turns) s = next_late (late_bodies turns) s s.lates
@@ -232,6 +232,6 @@ start contents = record {
   totals = [];
 }
 
--- A script's block and then the bodies that it put off. Each `late` puts off one body and runs at most once, so as many turns as there are statements suffice.
+-- A script's block and then its before-commit bodies. With as many turns as there are statements none is left out, and more turns change nothing: a law says so.
 abbrev pub run : List Statement → Contents → Outcome
 run block contents = and_then (run_block block (start contents)) (late_bodies (statement_count block))

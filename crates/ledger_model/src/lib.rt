@@ -7,6 +7,7 @@ mod listing;
 mod reason;
 mod rows;
 mod script;
+pub mod worked;
 
 pub use job::{Contents, Job, Openings, PairLists, Scripts, Steps, Workers};
 pub use listing::{Listing, Names, Rolled, RolledList, Row, RowResult};
