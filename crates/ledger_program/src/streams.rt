@@ -1,12 +1,12 @@
 //! The program over streams, and on its real ones.
-ghost use Rattle.std.specs.Prelude.{◌≡◌, ◌⊎◌, ℕ, map, string_bytes};
+ghost use Rattle.std.specs.Prelude.{◌≡◌, ◌⊎◌, ◌↔◌, ℕ, map, string_bytes};
 ghost use Rattle.std.specs.Process.{exit_status};
 ghost use Rattle.stm_io.specs.Faults.{Rose};
 ghost use Rattle.ledger_model.specs.declared.reason.Reason.{Reason};
 ghost use Rattle.ledger_host.specs.Words.{AsksTrace};
 ghost use Rattle.ledger_host.specs.Answers.{Answers, TellsJob, TellsNoJob};
 ghost use Rattle.ledger_host.specs.declared.host.HostStatus.{HostStatus};
-ghost use Rattle.ledger_program.specs.Status.{error_line, exit_number};
+ghost use Rattle.ledger_program.specs.Status.{error_line, exit_number, refusal_line};
 ghost use Rattle.ledger_program.specs.Ends.{Ends, IsTold};
 
 use crate::line::error_line;
@@ -30,6 +30,15 @@ pub fn program<S: Source, K: Sink, E: Sink>(
         (Answers S.left S.faults K.held K.faults (map string_bytes words.now) source.old source.new sink.old sink.new)
         (IsTold (E.held errors.old) (E.held errors.new) (E.faults errors.old) (E.faults errors.new))
         (exit_status result) }
+
+    ensures usage { (exit_status result ≡ 2) ↔ (¬ AsksTrace (map string_bytes words.now)) }
+    ensures refused { (line : ℕ) (reason : Reason) → AsksTrace (map string_bytes words.now) → TellsNoJob (S.left source.old) line reason
+        → ¬ Rose (S.faults source.old) (S.faults source.new)
+        → (exit_status result ≡ 3) × IsTold (E.held errors.old) (E.held errors.new) (E.faults errors.old) (E.faults errors.new) (refusal_line line reason)
+        ⊎ (exit_status result ≡ 6) }
+    ensures complete { AsksTrace (map string_bytes words.now) → TellsJob (S.left source.old)
+        → ¬ Rose (S.faults source.old) (S.faults source.new) → ¬ Rose (K.faults sink.old) (K.faults sink.new)
+        → (exit_status result ≡ 0) ⊎ (exit_status result ≡ 6) }
 {
     let status = host_plain(alloc, words, source, sink);
     tell(errors, status);
