@@ -19,10 +19,7 @@ fn each_status_has_its_line(rt: HostRuntime) {
             HostStatus::Usage,
             "usage: ledger trace or run or gen N [--policy P] [--looks N] [--attempts N] [--clock N]\n",
         ),
-        (
-            refused,
-            "ledger: line 18446744073709551615: unclosed\n",
-        ),
+        (refused, "ledger: line 18446744073709551615: unclosed\n"),
         (HostStatus::ReadFault, "ledger: read fault\n"),
         (HostStatus::WriteFault, "ledger: write fault\n"),
         (HostStatus::Memory, "ledger: no memory\n"),
