@@ -80,7 +80,7 @@ module _ {S K : Type 0} (left : S → Option (List ℕ)) (read_faults : S → �
   refusal_only Done a line reason asks tells quiet = absurd (no_report tells.text (left s) (left t) line reason a.1.0 tells.told_is tells.refused a.1.1)
   refusal_only Usage a line reason asks tells quiet = absurd (a.0 asks)
   refusal_only (Script number why) a line reason asks tells quiet = inl (only_refusal tells.text (left s) (left t) number line why reason tells.told_is tells.refused a.1)
-  refusal_only ReadFault a line reason asks tells quiet = absurd (quiet a.1)
+  refusal_only ReadFault a line reason asks tells quiet = absurd (quiet a.2)
   refusal_only WriteFault a line reason asks tells quiet = absurd (no_report tells.text (left s) (left t) line reason a.1.0 tells.told_is tells.refused a.1.1)
   refusal_only Memory a line reason asks tells quiet = inr refl
 
@@ -89,6 +89,6 @@ module _ {S K : Type 0} (left : S → Option (List ℕ)) (read_faults : S → �
   done_only Done a asks told quiet calm = inl refl
   done_only Usage a asks told quiet calm = absurd (a.0 asks)
   done_only (Script line reason) a asks told quiet calm = absurd (not_refused (left s) (left t) line reason told a.1)
-  done_only ReadFault a asks told quiet calm = absurd (quiet a.1)
+  done_only ReadFault a asks told quiet calm = absurd (quiet a.2)
   done_only WriteFault a asks told quiet calm = absurd (calm a.2)
   done_only Memory a asks told quiet calm = inr refl

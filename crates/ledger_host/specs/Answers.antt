@@ -2,7 +2,7 @@
 use Rattle.std.specs.Prelude.{◌≡◌, ◌⊎◌, ◌+◌, ◌<◌, ◌≤◌, ℕ, List, Option, Some, length}
 use Rattle.std.specs.Io.KnownBytes.{Appends}
 use Rattle.stm_io.specs.Faults.{Rose}
-use Rattle.stm_io.specs.Whole.{AppendedProperFront, TookAll, TookCount, most_bytes}
+use Rattle.stm_io.specs.Whole.{AppendedProperFront, TookAll, TookAtMost, TookCount, most_bytes}
 use Rattle.ledger_model.specs.declared.job.Job.{Job}
 use Rattle.ledger_model.specs.declared.listing.Listing.{Listing}
 use Rattle.ledger_model.specs.declared.reason.Reason.{Reason}
@@ -87,9 +87,10 @@ Answers left read_faults held write_faults words source source_after sink sink_a
 Answers left read_faults held write_faults words source source_after sink sink_after (Script line reason) =
     AsksTrace words × IsRefused (left source) (left source_after) line reason × (sink_after ≡ sink)
 Answers left read_faults held write_faults words source source_after sink sink_after ReadFault =
-    AsksTrace words × Rose (read_faults source) (read_faults source_after) × (sink_after ≡ sink)
+    AsksTrace words × TookAtMost (left source) (left source_after) most_bytes × Rose (read_faults source) (read_faults source_after) × (sink_after ≡ sink)
 Answers left read_faults held write_faults words source source_after sink sink_after WriteFault =
     AsksTrace words
     × ((bytes : List ℕ) × HasReport (left source) (left source_after) bytes × AppendedProperFront (held sink) (held sink_after) bytes)
     × Rose (write_faults sink) (write_faults sink_after)
-Answers left read_faults held write_faults words source source_after sink sink_after Memory = AsksTrace words × (sink_after ≡ sink)
+Answers left read_faults held write_faults words source source_after sink sink_after Memory =
+    AsksTrace words × TookAtMost (left source) (left source_after) most_bytes × (sink_after ≡ sink)

@@ -1,6 +1,7 @@
 -- Why there is no report.
 use Rattle.std.specs.Prelude.{ℕ, List, Option}
 use Rattle.stm_io.specs.Faults.{Rose}
+use Rattle.stm_io.specs.Whole.{TookAtMost, most_bytes}
 use Rattle.script_text.specs.declared.fault.ParseFault.{ParseFault}
 use Rattle.script_text.specs.declared.fault.ParseFault.TheVariants as parsing
 use Rattle.ledger_host.specs.Answers.{IsNoJob, IsRefused}
@@ -21,5 +22,5 @@ IsRefusalOf text Memory = Unit {0}
 -- of what a source had, before and after, with its counts of faults
 abbrev pub IsRefusalFrom : Option (List ℕ) → Option (List ℕ) → ℕ → ℕ → Refusal → Type 0
 IsRefusalFrom before after faults_before faults_after (Script line reason) = IsRefused before after line reason
-IsRefusalFrom before after faults_before faults_after ReadFault = Rose faults_before faults_after
-IsRefusalFrom before after faults_before faults_after Memory = Unit {0}
+IsRefusalFrom before after faults_before faults_after ReadFault = TookAtMost before after most_bytes × Rose faults_before faults_after
+IsRefusalFrom before after faults_before faults_after Memory = TookAtMost before after most_bytes
