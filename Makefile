@@ -7,7 +7,7 @@
 demo:
 	@mkdir -p out
 	@echo 'demo: built by rt try, which proves nothing; make ledger proves the same program' >&2
-	@(cd crates/ledger_main && rt try -- trace < stdin) 2> out/demo.log || { cat out/demo.log >&2; exit 1; }
+	@(cd crates/ledger_main && rt try -- trace) < examples/two_adds.job 2> out/demo.log || { cat out/demo.log >&2; exit 1; }
 
 test:
 	@rt ci
@@ -24,7 +24,7 @@ ledger: HANDLES crates.txt $(shell find crates -type f \( -name '*.rt' -o -name 
 		(cd crates/$$crate && rt lib) >> out/ledger.log 2>&1 || $(not_proved); \
 		echo "proved $$crate"; \
 	done
-	@(cd crates/ledger_main && rt run -- trace < stdin) > out/ledger.report 2>> out/ledger.log || $(not_proved)
+	@(cd crates/ledger_main && rt run -- trace) < examples/two_adds.job > out/ledger.report 2>> out/ledger.log || $(not_proved)
 	@echo 'proved ledger_main'
 	@cmp out/ledger.report examples/two_adds.report
 	@cp crates/ledger_main/out/ledger_main $@
