@@ -6,7 +6,7 @@ use Rattle.meta_word.specs.declared.policy.Policy.TheVariants.{Doom, Look}
 use Rattle.stm_model.specs.declared.access.Ask.{Ask}
 use Rattle.stm_model.specs.declared.access.Ask.TheVariants.{Abandon, Finish, Get, Set}
 use Rattle.stm_model.specs.declared.cause.Cause.{Cause}
-use Rattle.stm_model.specs.declared.cause.Cause.TheVariants.{Doomed, ReadConflict, Stale, WriteConflict}
+use Rattle.stm_model.specs.declared.cause.Cause.TheVariants.{Doomed, Moved, ReadConflict, Stale, WriteConflict}
 use Rattle.stm_model.specs.declared.note.Note.{Note}
 use Rattle.stm_model.specs.declared.settings.Settings.{Settings}
 use Rattle.stm_model.specs.Accesses.{active, addr_of, doomed, next, owned, released}
@@ -196,3 +196,24 @@ abbrev pub doom_written : List Event
 doom_written =
     doom_rolled ++ begins (Doom 0) 1 ++ gets 1 1 3 ++ sets 1 0 1 2 ++ finishes 1 8 ++
     begins (Doom 0) 2 ++ sets 2 0 2 2 ++ finishes 2 7
+
+-- ---- a value that is being stored
+
+-- The first has loaded a cell's metadata. The second is decided and has stored its value there, which the first loads.
+abbrev pub storing : List Event
+storing =
+    begins (Look 0) 1 ++ gets 1 0 1 ++
+    begins (Look 0) 2 ++ sets 2 0 5 2 ++ finishes 2 5 ++ steps 1 1
+
+-- The first loads the metadata again.
+abbrev pub storing_found : List Event
+storing_found = storing ++ steps 1 1
+
+abbrev pub in_store : Cause
+in_store = Moved (addr_of 0) unwritten (record (owned 2 unwritten) { changing = true })
+
+abbrev pub storing_rolled : List Event
+storing_rolled = storing_found ++ finishes 1 1
+
+abbrev pub storing_read : List Event
+storing_read = storing_rolled ++ steps 2 2 ++ begins (Look 0) 1 ++ gets 1 0 3 ++ finishes 1 1

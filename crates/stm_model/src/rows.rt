@@ -5,8 +5,8 @@ ghost use Rattle.std.specs.Prelude.{◌≡◌, ◌∷◌, [], Some, true, false}
 ghost use Rattle.meta_word.specs.declared.policy.Policy.TheVariants.{Doom, Look};
 ghost use Rattle.stm_model.specs.declared.ending.Ending.TheVariants.{Committed, Read, Rolled};
 ghost use Rattle.stm_model.specs.Accesses.{active, doomed, owned, released};
-ghost use Rattle.stm_model.specs.Attempt.{Ready, Stopped};
-ghost use Rattle.stm_model.specs.Rows.{AreOver, IsRun, between, between_read, between_rolled, by_another, counter, doom, doom_found, doom_rolled, doom_written, dooming, entry, held, in_change, lost_update, lost_update_counted, lost_update_rolled, noted, overtaken, overtaken_found, overtaken_read, overtaken_rolled, pair, passed, passed_extended, passed_read, skew, skew_found, skew_summed, skew_undone, stale};
+ghost use Rattle.stm_model.specs.Attempt.{Ready, Stopped, Validate};
+ghost use Rattle.stm_model.specs.Rows.{AreOver, IsRun, between, between_read, between_rolled, by_another, counter, doom, doom_found, doom_rolled, doom_written, dooming, entry, held, in_change, lost_update, lost_update_counted, lost_update_rolled, noted, overtaken, overtaken_found, overtaken_read, overtaken_rolled, pair, passed, passed_extended, passed_read, skew, skew_found, skew_summed, skew_undone, stale, in_store, storing, storing_found, storing_read, storing_rolled};
 ghost use Rattle.stm_model.specs.World.{attempt_of, unwritten};
 
 /// Two callers read a counter, and each is to write one more than it read. The second finds, when it
@@ -72,6 +72,21 @@ pub fn no_half_stored_heap_is_read()
     ensures ended { (attempt_of (pair between_read) 1).ending ≡ Some (Read 1) }
     ensures over { AreOver (pair between_read) }
     ensures may { IsRun (1 ∷ 1 ∷ []) (Look 0) between_read }
+{}
+
+/// A caller has loaded a cell's metadata when a writer is decided and stores its value there. The caller
+/// loads that value, which is of no heap that it may read from. But the metadata, loaded again, shows the
+/// cell changing, so nothing is noted, and the next attempt reads the value once it is released.
+pub fn no_value_is_read_while_it_is_stored()
+    ensures stored { ((pair storing).value 0 ≡ 5) × ((pair storing).meta 0 ≡ record (owned 2 unwritten) { changing = true }) }
+    ensures loaded { (attempt_of (pair storing) 1).stage ≡ Validate 0 0 unwritten 5 }
+    ensures refused { (attempt_of (pair storing_found) 1).stage ≡ Stopped in_store }
+    ensures told { (attempt_of (pair storing_found) 1).notes ≡ [] }
+    ensures rolled { (attempt_of (pair storing_rolled) 1).ending ≡ Some (Rolled in_store 0) }
+    ensures read { (attempt_of (pair storing_read) 1).notes ≡ noted 0 1 5 ∷ [] }
+    ensures ended { (attempt_of (pair storing_read) 1).ending ≡ Some (Read 1) }
+    ensures over { AreOver (pair storing_read) }
+    ensures may { IsRun (1 ∷ 1 ∷ []) (Look 0) storing_read }
 {}
 
 /// A caller owns a cell that another is to write. The other dooms it, and is refused the cell all the
