@@ -11,3 +11,4 @@ pub mod RanLemmas
 pub mod AttemptLemmas
 pub mod RowsLemmas
 pub mod WholeLemmas
+pub mod LayoutLemmas

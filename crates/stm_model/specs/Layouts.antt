@@ -36,3 +36,32 @@ block_at layout block index = cells_before layout.refs layout.maps layout.snaps 
 pub record IsBlock (layout : Layout) (block : ℕ) : Type 0 where
   pub some : 0 < block
   pub within : block ≤ block_count layout
+
+-- ---- what each cell is for
+
+-- a part of a layout that takes one cell
+pub data Part : Type 0 where
+  Ref : (number : ℕ) → Part
+  Root : (map : ℕ) → Part
+  Generation : (map : ℕ) → Part
+  Slot : (snap : ℕ) → Part
+  Count : (stripe : ℕ) → Part
+  Word : (block index : ℕ) → Part
+
+-- The layout has this part.
+unfoldable pub IsPart : Layout → Part → Type 0
+IsPart layout (Ref number) = number < layout.refs
+IsPart layout (Root map) = map < layout.maps
+IsPart layout (Generation map) = map < layout.maps
+IsPart layout (Slot snap) = snap < layout.snaps
+IsPart layout (Count stripe) = stripe < layout.stripes
+IsPart layout (Word block index) = IsBlock layout block × (index < BLOCK_CELLS)
+
+-- the cell of a part
+unfoldable pub part_at : Layout → Part → ℕ
+part_at layout (Ref number) = number
+part_at layout (Root map) = root_at layout map
+part_at layout (Generation map) = generation_at layout map
+part_at layout (Slot snap) = slot_at layout snap
+part_at layout (Count stripe) = stripe_at layout stripe
+part_at layout (Word block index) = block_at layout block index

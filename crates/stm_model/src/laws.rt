@@ -4,8 +4,10 @@ ghost use Rattle.std.specs.List.{All, IsDistinct};
 ghost use Rattle.std.specs.Map.{keys_of, lookup, values_of};
 ghost use Rattle.stm_model.specs.declared.cause.Cause.{Cause};
 ghost use Rattle.stm_model.specs.declared.note.Note.{Note};
+ghost use Rattle.stm_model.specs.declared.sizes.Layout.{Layout};
 ghost use Rattle.stm_model.specs.Heap.{Agrees, AreWords, over, put, writes_to};
 ghost use Rattle.stm_model.specs.History.{Entry, IsCurrent, IsEntry, IsLegal, entry_after, last, state};
+ghost use Rattle.stm_model.specs.Layouts.{IsPart, Part, cell_count, part_at};
 ghost use Rattle.stm_model.specs.Owes.{Owes};
 ghost use Rattle.stm_model.specs.Sizes.{IsWithinLimits, cells_needed};
 ghost use Rattle.stm_model.specs.Telling.{Extends, Owing, Reading, StaysLawful, Stopping, Writing};
@@ -125,6 +127,15 @@ pub fn what_is_owed_stays_owed<L: Law, C: Cells<L>>()
 pub fn free_allows_all_writes()
     ensures { (law : Free) (size : ℕ) (reads : List Note) (writes : List (ℕ × ℕ)) →
         Owes (⟦<Free as Law>⟧.lawful law) (⟦<Free as Law>⟧.may law) size reads writes }
+{}
+
+/// Each part of a layout has a cell of its own, within the layout, and each cell is that of one part.
+pub fn each_cell_of_a_layout_is_one_part()
+    ensures inside { (layout : Layout) (part : Part) → IsPart layout part → part_at layout part < cell_count layout }
+    ensures apart { (layout : Layout) (one other : Part) → IsPart layout one → IsPart layout other →
+        part_at layout one ≡ part_at layout other → one ≡ other }
+    ensures each { (layout : Layout) (cell : ℕ) → cell < cell_count layout →
+        (part : Part) × IsPart layout part × (part_at layout part ≡ cell) }
 {}
 
 /// A layout by hand: two refs, one map, one snapshot slot and two stripes of three blocks each take
