@@ -23,14 +23,14 @@ use Rattle.opacity.proofs.Ends.{gone_on, rolled_open, stopped_open}
 use Rattle.opacity.proofs.Fits.{Fits, IsOpen, goes_on_same, open_facts, open_fits, open_fits_with}
 use Rattle.opacity.proofs.Levels.{HoldsThese, and_not, given_holds, given_safe, gives_level, nest_outer, put_written}
 use Rattle.opacity.proofs.Shown.{Shows, abandon_shown}
-use Rattle.opacity.proofs.Stands.{kept_flying, IsPlain, Follows, Sound, sound_levels}
+use Rattle.opacity.proofs.Stands.{IsPlain, Follows, Sound, follows_at, sound_levels}
 use Rattle.opacity.proofs.Walks.{keys-append, keys-put_written, writes_to_keys}
 
 -- What is given back goes on as the same attempt.
 pub given_follows : (t : Attempt) (due : List Due) (here : Stage) (kept behind : List Write) → HasBegun here → flies_at here ≡ true → t.ending ≡ None → Follows (at t here) (release_level_on (record t { due = due }) kept behind)
 unfolding HasBegun
-given_follows t due here kept [] begun flies none = record { serial = refl; phase = refl; prefix = omega arith; began = begun; begun = tt; kept = λ k. kept_flying here t.ending flies; undecided = λ k undecided. undecided }
-given_follows t due here kept (write ∷ behind) begun flies none = record { serial = refl; phase = refl; prefix = omega arith; began = begun; begun = tt; kept = λ k. kept_flying here t.ending flies; undecided = λ k undecided. undecided }
+given_follows t due here kept [] begun flies none = follows_at t _ here refl refl refl refl flies begun tt
+given_follows t due here kept (write ∷ behind) begun flies none = follows_at t _ here refl refl refl refl flies begun tt
 
 unwritten : (writes : List Write) (cell : ℕ) → lookup (nat_eq cell) writes ≡ None → writes_to writes cell ≡ false
 unwritten writes cell none = writes_to-lookup writes cell ∙ ap (λ found. is_some found) none

@@ -25,7 +25,7 @@ use Rattle.opacity.proofs.Fits.{Fits, ending_is, phase_is, safe_local, safe_seen
 use Rattle.opacity.proofs.ReadSteps.{knows_attempt, knows_clock, same_number}
 use Rattle.opacity.proofs.Samples.{not_written, sampled_all, sampled_more, sampled_start, still_current}
 use Rattle.opacity.proofs.Shown.{all_at, names_checked}
-use Rattle.opacity.proofs.Stands.{kept_flying, IsPlain, Sound, placed, sound_at, sound_of}
+use Rattle.opacity.proofs.Stands.{IsPlain, Sound, follows_at, placed, sound_at, sound_of}
 use Rattle.opacity.proofs.Stepping.{stepped}
 
 -- Where it is to be decided, an attempt holds its cells, all of them marked.
@@ -74,7 +74,7 @@ module _ (terms : Terms) (w : World) (p : ℕ) (t : Attempt) (here : Stage) (wei
           unstored = λ held. rw (first.unstored, second.unstored) refl;
           stamp = λ held. refl;
         };
-        follows = record { serial = refl; phase = refl; prefix = omega arith; began = first.begun; begun = second.begun; kept = λ kept. kept_flying here t.ending first.flies; undecided = λ kept undecided. undecided };
+        follows = follows_at t _ here refl refl refl refl first.flies first.begun second.begun;
         safe = placed terms w p t sound (rw none tt) there (weighs_plain there then_weighs) (second.phase_to t.ending t.phase prepares) (second.ending_to t.ending none) stage;
       }
 

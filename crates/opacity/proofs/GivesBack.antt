@@ -17,8 +17,8 @@ use Rattle.opacity.proofs.Ends.{clash}
 use Rattle.opacity.proofs.Fits.{ending_is, phase_is, stage_is}
 use Rattle.opacity.proofs.Levels.{HoldsThese, and_not, given_holds, given_safe}
 use Rattle.opacity.proofs.Releases.{due_same, held_here, written_cell}
-use Rattle.opacity.proofs.Stands.{Follows, Sound, placed, sound_of, told_same}
-use Rattle.opacity.proofs.Stepping.{back_close, back_ending, back_stamp, stepped}
+use Rattle.opacity.proofs.Stands.{Follows, Sound, follows_at, placed, sound_of, told_same}
+use Rattle.opacity.proofs.Stepping.{back_close, back_stamp, stepped}
 use Rattle.opacity.proofs.Touch.{freed, kept, owner_is, safe_touched}
 use Rattle.opacity.proofs.Walks.{IsNext, among, among-append, ends_more, keys-append, next_of, none_before, none_behind, writes_to_else, writes_to_here}
 
@@ -39,9 +39,9 @@ back_alike t due write (next ∷ behind) cell other =
     record { held = sym same; marked = λ held. rw (same, unmarked_else (has_prepared t.phase) write (next ∷ behind) cell other) refl; unstored = λ held. refl; stamp = λ held. refl }
 
 back_follows : (t : Attempt) (due : List Due) (write : Write) (behind : List Write) → Follows (at t (RollBack write behind)) (roll_on (record t { due = due }) behind)
-unfolding IsKept HasBegun
-back_follows t due write [] = record { serial = refl; phase = refl; prefix = omega arith; began = tt; begun = tt; kept = λ kept. tt; undecided = λ kept undecided. undecided }
-back_follows t due write (next ∷ behind) = record { serial = refl; phase = refl; prefix = omega arith; began = tt; begun = tt; kept = λ kept. tt; undecided = λ kept undecided. undecided }
+unfolding flies_at HasBegun
+back_follows t due write [] = follows_at t _ (RollBack write []) refl refl refl refl refl tt tt
+back_follows t due write (next ∷ behind) = follows_at t _ (RollBack write (next ∷ behind)) refl refl refl refl refl tt tt
 
 back_free : (t : Attempt) (cell : ℕ) (behind : List Write) → writes_to behind cell ≡ false → holds (roll_on t behind) cell ≡ false
 unfolding held_at
@@ -50,12 +50,12 @@ back_free t cell (next ∷ behind) none = none
 
 back_safe : (terms : Terms) (w : World) (p : ℕ) (t : Attempt) (due : List Due) (write : Write) (behind : List Write) → Sound terms w p t → PhaseAt (RollBack write behind) t.ending t.phase → EndingAt (RollBack write behind) t.ending → EndsSo w t t.ending
     → EndsWith t.now.writes behind → SafeAttempt terms w p (roll_on (record t { due = due }) behind)
-unfolding SafeStage PhaseAt HasBegun
+unfolding SafeStage PhaseAt EndingAt HasBegun
 back_safe terms w p t due write [] sound phase ending so ends =
     placed terms w p (record t { due = due }) sound (told_same terms w p t (record t { due = due }) (due_same terms w p t due) t.ending so) Close tt phase (back_close write [] t.ending ending) tt
 back_safe terms w p t due write (next ∷ behind) sound phase ending so ends =
     placed terms w p (record t { due = due }) sound (told_same terms w p t (record t { due = due }) (due_same terms w p t due) t.ending so) (RollBack next behind) tt phase
-    (back_ending write next (next ∷ behind) behind t.ending ending) ends
+    ending ends
 
 -- ---- a level
 
@@ -122,9 +122,9 @@ mark_alike t write [] cell other = record { held = refl; marked = λ held. rw (w
 mark_alike t write (next ∷ behind) cell other = record { held = refl; marked = λ held. rw (writes_to_else write (next ∷ behind) cell other) refl; unstored = λ held. refl; stamp = λ held. refl }
 
 mark_follows : (t : Attempt) (write : Write) (behind : List Write) → Follows (at t (Mark write behind)) (mark_on t behind)
-unfolding IsKept HasBegun
-mark_follows t write [] = record { serial = refl; phase = refl; prefix = omega arith; began = tt; begun = tt; kept = λ kept. tt; undecided = λ kept undecided. undecided }
-mark_follows t write (next ∷ behind) = record { serial = refl; phase = refl; prefix = omega arith; began = tt; begun = tt; kept = λ kept. tt; undecided = λ kept undecided. undecided }
+unfolding flies_at HasBegun
+mark_follows t write [] = follows_at t _ (Mark write []) refl refl refl refl refl tt tt
+mark_follows t write (next ∷ behind) = follows_at t _ (Mark write (next ∷ behind)) refl refl refl refl refl tt tt
 
 pub mark_safe : (terms : Terms) (w : World) (p : ℕ) (t : Attempt) (behind : List Write) → Sound terms w p t → t.phase ≡ Preparing → t.ending ≡ None → 0 < length t.now.writes → EndsWith t.now.writes behind → SafeAttempt terms w p (mark_on t behind)
 unfolding SafeStage PhaseAt HasBegun EndingAt EndsSo

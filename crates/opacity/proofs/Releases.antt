@@ -4,7 +4,7 @@ use Rattle.std.specs.Map.{keys_of}
 use Rattle.meta_word.specs.declared.status.Phase.TheVariants.{Preparing}
 use Rattle.stm_model.specs.Accesses.{next_at, released}
 use Rattle.stm_model.specs.After.{after_at, at, release_on, ring_if}
-use Rattle.stm_model.specs.Attempt.{Attempt, Close, Due, Release, Stage, Write, held_at, unmarked_at, unstored_at, holds, stamp_of}
+use Rattle.stm_model.specs.Attempt.{flies_at, Attempt, Close, Due, Release, Stage, Write, held_at, unmarked_at, unstored_at, holds, stamp_of}
 use Rattle.stm_model.specs.Heap.{writes_to}
 use Rattle.stm_model.specs.Safe.{IsKept, EndingAt, EndsSo, EndsWith, HasBegun, IsBeingWritten, PhaseAt, Safe, SafeAttempt, SafeStage, stamp_on, value_then}
 use Rattle.stm_model.specs.World.{IsCaller, Terms, World, attempt_of, cells_in, words_after, clock_after, found, seen_after, since_at}
@@ -12,8 +12,8 @@ use Rattle.stm_model.proofs.HistoryLemmas.{last_below, same_since_last}
 use Rattle.opacity.proofs.Cells.{AlikeAt}
 use Rattle.opacity.proofs.Ends.{clash}
 use Rattle.opacity.proofs.Fits.{ending_is, phase_is, stage_is}
-use Rattle.opacity.proofs.Stands.{Follows, SameGround, Sound, placed, sound_of, told_same}
-use Rattle.opacity.proofs.Stepping.{IsStamped, release_close, release_ending, release_phase, stamped_release, stepped}
+use Rattle.opacity.proofs.Stands.{Follows, SameGround, Sound, follows_at, placed, sound_of, told_same}
+use Rattle.opacity.proofs.Stepping.{IsStamped, release_close, release_phase, stamped_release, stepped}
 use Rattle.opacity.proofs.Touch.{freed, owner_is, safe_touched}
 use Rattle.opacity.proofs.Walks.{IsNext, all_among, ends_more, next_of, writes_to_else, writes_to_here}
 
@@ -27,9 +27,9 @@ release_alike t due write (next ∷ behind) cell other =
     record { held = sym same; marked = λ held. rw same refl; unstored = λ held. refl; stamp = λ held. refl }
 
 release_follows : (t : Attempt) (due : List Due) (write : Write) (behind : List Write) → Follows (at t (Release write behind)) (release_on (record t { due = due }) behind)
-unfolding IsKept HasBegun
-release_follows t due write [] = record { serial = refl; phase = refl; prefix = omega arith; began = tt; begun = tt; kept = λ kept. tt; undecided = λ kept undecided. undecided }
-release_follows t due write (next ∷ behind) = record { serial = refl; phase = refl; prefix = omega arith; began = tt; begun = tt; kept = λ kept. tt; undecided = λ kept undecided. undecided }
+unfolding flies_at HasBegun
+release_follows t due write [] = follows_at t _ (Release write []) refl refl refl refl refl tt tt
+release_follows t due write (next ∷ behind) = follows_at t _ (Release write (next ∷ behind)) refl refl refl refl refl tt tt
 
 release_free : (t : Attempt) (cell : ℕ) (behind : List Write) → writes_to behind cell ≡ false → holds (release_on t behind) cell ≡ false
 unfolding held_at
@@ -42,12 +42,12 @@ module _ (terms : Terms) (w : World) (p : ℕ) where
 
   pub release_safe : (t : Attempt) (due : List Due) (write : Write) (behind : List Write) → Sound terms w p t → t.phase ≡ Preparing → EndingAt (Release write behind) t.ending → EndsSo w t t.ending
       → EndsWith t.now.writes behind → SafeAttempt terms w p (release_on (record t { due = due }) behind)
-  unfolding SafeStage PhaseAt HasBegun
+  unfolding SafeStage PhaseAt EndingAt HasBegun
   release_safe t due write [] sound phase ending so ends =
       placed terms w p (record t { due = due }) sound (told_same terms w p t (record t { due = due }) (due_same t due) t.ending so) Close tt (release_phase write [] t.ending t.phase ending phase) (release_close write [] t.ending ending) tt
   release_safe t due write (next ∷ behind) sound phase ending so ends =
       placed terms w p (record t { due = due }) sound (told_same terms w p t (record t { due = due }) (due_same t due) t.ending so) (Release next behind) tt phase
-      (release_ending write next (next ∷ behind) behind t.ending ending) ends
+      ending ends
 
 unwritten_stamp : (b : Bool) (stamp : ℕ) → b ≡ false → (if b then stamp - 1 else stamp) ≡ stamp
 unwritten_stamp b stamp is = rw is refl

@@ -251,6 +251,18 @@ pub record Follows (t u : Attempt) : Type 0 where
   pub kept : IsKept u.stage u.ending → IsKept t.stage t.ending
   pub undecided : IsKept u.stage u.ending → stamp_of u ≡ 0 → stamp_of t ≡ 0
 
+-- From a stage in flight to another, with its numbers, phase, prefix and ending.
+pub follows_at : (t u : Attempt) (here : Stage) → u.serial ≡ t.serial → u.phase ≡ t.phase → u.prefix ≡ t.prefix → u.ending ≡ t.ending → flies_at here ≡ true → HasBegun here → HasBegun u.stage → Follows (at t here) u
+follows_at t u here serial phase prefix ending flies began begun = record {
+  serial = serial;
+  phase = phase;
+  prefix = omega (arith, prefix);
+  began = began;
+  begun = begun;
+  kept = λ kept. kept_flying here t.ending flies;
+  undecided = λ kept undecided. rw ending at undecided;
+}
+
 -- The view knows no less than the other one, of the same attempt.
 pub record Knows (w : World) (old new : View) : Type 0 where
   pub seen : old.seen ≤ new.seen

@@ -1,5 +1,5 @@
 -- The step of a caller whose attempt stands at a given stage.
-use Rattle.std.proofs.Common.{◌≡◌, ℕ, ◌-◌, ◌<◌, ◌≤◌, Option, Some, None, List, length, refl}
+use Rattle.std.proofs.Common.{◌≡◌, ℕ, ◌-◌, ◌<◌, ◌≤◌, Option, Some, None, List, length, refl, subst}
 use Rattle.meta_word.specs.declared.status.Phase.{Phase}
 use Rattle.meta_word.specs.declared.status.Phase.TheVariants.{Preparing}
 use Rattle.stm_model.specs.declared.ending.Ending.{Ending}
@@ -38,57 +38,34 @@ pub record IsStamped (w : World) (t : Attempt) : Type 0 where
   pub high : stamp_in t.ending ≤ length w.history
   pub entry : entry_after w.history (stamp_in t.ending - 1) ≡ entry_of t
 
-stamped_by : (w : World) (t : Attempt) (write : Write) (behind : List Write) (ending : Option Ending) → EndingAt (Release write behind) ending → EndsSo w t ending
-    → (0 < stamp_in ending) × (stamp_in ending ≤ length w.history) × (entry_after w.history (stamp_in ending - 1) ≡ entry_of t)
-unfolding EndingAt EndsSo
-stamped_by w t write behind None at so = absurd at
-stamped_by w t write behind (Some (Committed stamp)) at so = so
-stamped_by w t write behind (Some (Read prefix)) at so = absurd at
-stamped_by w t write behind (Some (Rolled cause prefix)) at so = absurd at
+-- Who releases its cells, and who stores its values, has committed.
+committed_by : (write : Write) (behind : List Write) (ending : Option Ending) → EndingAt (Release write behind) ending → (stamp : ℕ) × (ending ≡ Some (Committed stamp))
+unfolding EndingAt
+committed_by write behind (Some (Committed stamp)) at = (stamp, refl)
+committed_by write behind ending at = absurd at
 
 pub stamped_release : (w : World) (t : Attempt) (write : Write) (behind : List Write) → EndingAt (Release write behind) t.ending → EndsSo w t t.ending → IsStamped w t
-stamped_release w t write behind at so = let is = stamped_by w t write behind t.ending at so in record { above = is.0; high = is.1; entry = is.2 }
-
-pub release_ending : (write other : Write) (behind rest : List Write) (ending : Option Ending) → EndingAt (Release write behind) ending → EndingAt (Release other rest) ending
-unfolding EndingAt
-release_ending write other behind rest ending at = at
-
-pub store_release : (write other : Write) (behind rest : List Write) (ending : Option Ending) → EndingAt (StoreValues write behind) ending → EndingAt (Release other rest) ending
-unfolding EndingAt
-store_release write other behind rest ending at = at
-
-pub release_store : (write other : Write) (behind rest : List Write) (ending : Option Ending) → EndingAt (Release write behind) ending → EndingAt (StoreValues other rest) ending
-unfolding EndingAt
-release_store write other behind rest ending at = at
+unfolding EndsSo
+stamped_release w t write behind at so =
+    let is = committed_by write behind t.ending at in
+    let stamped = subst (λ (ending : Option Ending). EndsSo w t ending) is.1 so in
+    rw is.1 (record { above = stamped.0; high = stamped.1; entry = stamped.2 })
 
 pub release_close : (write : Write) (behind : List Write) (ending : Option Ending) → EndingAt (Release write behind) ending → EndingAt Close ending
 unfolding EndingAt
-release_close write behind None at = absurd at
-release_close write behind (Some (Committed stamp)) at = tt
-release_close write behind (Some (Read prefix)) at = tt
-release_close write behind (Some (Rolled cause prefix)) at = tt
+release_close write behind ending at = rw (committed_by write behind ending at).1 tt
 
 pub release_phase : (write : Write) (behind : List Write) (ending : Option Ending) (phase : Phase) → EndingAt (Release write behind) ending → phase ≡ Preparing → PhaseAt Close ending phase
-unfolding EndingAt PhaseAt ClosingPhase
-release_phase write behind None phase at prepares = absurd at
-release_phase write behind (Some (Committed stamp)) phase at prepares = prepares
-release_phase write behind (Some (Read prefix)) phase at prepares = absurd at
-release_phase write behind (Some (Rolled cause prefix)) phase at prepares = absurd at
+unfolding PhaseAt ClosingPhase
+release_phase write behind ending phase at prepares = rw (committed_by write behind ending at).1 prepares
 
+-- Who rolls back has a cause.
 pub back_close : (write : Write) (behind : List Write) (ending : Option Ending) → EndingAt (RollBack write behind) ending → EndingAt Close ending
 unfolding EndingAt
-back_close write behind None at = absurd at
-back_close write behind (Some (Committed stamp)) at = absurd at
-back_close write behind (Some (Read prefix)) at = absurd at
 back_close write behind (Some (Rolled cause prefix)) at = tt
-
-pub back_ending : (write other : Write) (behind rest : List Write) (ending : Option Ending) → EndingAt (RollBack write behind) ending → EndingAt (RollBack other rest) ending
-unfolding EndingAt
-back_ending write other behind rest ending at = at
+back_close write behind ending at = absurd at
 
 pub back_stamp : (write : Write) (behind : List Write) (ending : Option Ending) → EndingAt (RollBack write behind) ending → stamp_in ending ≡ 0
 unfolding EndingAt
-back_stamp write behind None at = refl
 back_stamp write behind (Some (Committed stamp)) at = absurd at
-back_stamp write behind (Some (Read prefix)) at = refl
-back_stamp write behind (Some (Rolled cause prefix)) at = refl
+back_stamp write behind ending at = refl

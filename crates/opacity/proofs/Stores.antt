@@ -6,7 +6,7 @@ use Rattle.meta_word.specs.declared.status.Phase.TheVariants.{Preparing}
 use Rattle.stm_model.specs.declared.ending.Ending.{Ending}
 use Rattle.stm_model.specs.Accesses.{next_at}
 use Rattle.stm_model.specs.After.{after_at, at, release_on, store_on}
-use Rattle.stm_model.specs.Attempt.{Attempt, Release, Stage, StoreValues, Write, held_at, unmarked_at, unstored_at, holds, marks, stamp_of}
+use Rattle.stm_model.specs.Attempt.{flies_at, Attempt, Release, Stage, StoreValues, Write, held_at, unmarked_at, unstored_at, holds, marks, stamp_of}
 use Rattle.stm_model.specs.Heap.{over, writes_to}
 use Rattle.stm_model.specs.History.{Entry, entry_after, state}
 use Rattle.stm_model.specs.Safe.{IsKept, EndingAt, EndsSo, EndsWith, HasBegun, IsBeingWritten, PhaseAt, Safe, SafeAttempt, SafeCell, SafeStage, stamp_on, value_then}
@@ -17,8 +17,8 @@ use Rattle.opacity.proofs.Cells.{AlikeAt, MovesOn, SameCell, same_of}
 use Rattle.opacity.proofs.Fits.{ending_is, phase_is, stage_is}
 use Rattle.opacity.proofs.Places.{replaced_else, replaced_here}
 use Rattle.opacity.proofs.Releases.{held_here, release_safe, written_cell}
-use Rattle.opacity.proofs.Stands.{Follows, Sound, own_follows, placed, sound_of}
-use Rattle.opacity.proofs.Stepping.{IsStamped, release_ending, release_store, stamped_release, stepped, store_release}
+use Rattle.opacity.proofs.Stands.{Follows, Sound, follows_at, own_follows, placed, sound_of}
+use Rattle.opacity.proofs.Stepping.{IsStamped, stamped_release, stepped}
 use Rattle.opacity.proofs.Touch.{owner_is}
 use Rattle.opacity.proofs.Walks.{IsNext, ends_more, next_of, writes_to_else}
 use Rattle.opacity.proofs.Whole.{OwnSafe, others_else, own_here, quiet, safe_moved}
@@ -44,27 +44,20 @@ store_stores t [] cell = release_stores t t.now.writes cell refl
 store_stores t (next ∷ behind) cell = record { held = refl; marked = and_true (writes_to t.now.writes cell); unstored = λ there. refl; stamp = refl }
 
 release_goes : (t : Attempt) (write : Write) (behind writes : List Write) → Follows (at t (StoreValues write behind)) (release_on t writes)
-unfolding IsKept HasBegun
-release_goes t write behind [] = record { serial = refl; phase = refl; prefix = omega arith; began = tt; begun = tt; kept = λ kept. tt; undecided = λ kept undecided. undecided }
-release_goes t write behind (next ∷ rest) = record { serial = refl; phase = refl; prefix = omega arith; began = tt; begun = tt; kept = λ kept. tt; undecided = λ kept undecided. undecided }
+unfolding flies_at HasBegun
+release_goes t write behind [] = follows_at t _ (StoreValues write behind) refl refl refl refl refl tt tt
+release_goes t write behind (next ∷ rest) = follows_at t _ (StoreValues write behind) refl refl refl refl refl tt tt
 
 pub store_follows : (t : Attempt) (write : Write) (behind rest : List Write) → Follows (at t (StoreValues write behind)) (store_on t rest)
-unfolding IsKept HasBegun
+unfolding flies_at HasBegun
 store_follows t write behind [] = release_goes t write behind t.now.writes
-store_follows t write behind (next ∷ rest) = record { serial = refl; phase = refl; prefix = omega arith; began = tt; begun = tt; kept = λ kept. tt; undecided = λ kept undecided. undecided }
+store_follows t write behind (next ∷ rest) = follows_at t _ (StoreValues write behind) refl refl refl refl refl tt tt
 
 pub store_safe : (terms : Terms) (w : World) (p : ℕ) (t : Attempt) (write : Write) (behind rest : List Write) → Sound terms w p t → t.phase ≡ Preparing → EndingAt (Release write behind) t.ending → EndsSo w t t.ending
     → EndsWith t.now.writes rest → SafeAttempt terms w p (store_on t rest)
-unfolding SafeStage PhaseAt HasBegun
-store_safe terms w p t write behind [] sound phase ending so ends = release_safe terms w p t t.due write behind_writes sound phase (release_any t.ending ending) so ([], refl)
-  where
-    behind_writes : List Write
-    behind_writes = t.now.writes
-
-    release_any : (e : Option Ending) → EndingAt (Release write behind) e → EndingAt (Release write behind_writes) e
-    release_any e h = release_ending write write behind behind_writes e h
-store_safe terms w p t write behind (next ∷ rest) sound phase ending so ends =
-    placed terms w p t sound so (StoreValues next rest) tt phase (release_store write next behind rest t.ending ending) ends
+unfolding SafeStage PhaseAt EndingAt HasBegun
+store_safe terms w p t write behind [] sound phase ending so ends = release_safe terms w p t t.due write t.now.writes sound phase ending so ([], refl)
+store_safe terms w p t write behind (next ∷ rest) sound phase ending so ends = placed terms w p t sound so (StoreValues next rest) tt phase ending ends
 
 -- what a writer's entry makes of a cell that it writes
 state_stamp : (opening : List ℕ) (history : List Entry) (stamp : ℕ) (entry : Entry) → 0 < stamp → entry_after history (stamp - 1) ≡ entry → state opening history stamp ≡ over (state opening history (stamp - 1)) entry.writes
@@ -94,7 +87,8 @@ module _ (lawful : List ℕ → Type 0) (may : List ℕ → List ℕ → Type 0)
   ends = stage_is terms w p (StoreValues write behind) (safe.attempts p caller) is
 
   ending : EndingAt (Release write behind) t.ending
-  ending = store_release write write behind behind t.ending (ending_is terms w p (StoreValues write behind) (safe.attempts p caller) is)
+  unfolding EndingAt
+  ending = ending_is terms w p (StoreValues write behind) (safe.attempts p caller) is
 
   stamped : IsStamped w t
   stamped = stamped_release w t write behind ending (safe.attempts p caller).ends_so
