@@ -54,7 +54,7 @@ if_history : (b : Bool) (v w : World) → v.history ≡ w.history → (if b then
 if_history true v w same = same
 if_history false v w same = refl
 
-words_history : (w : World) (t : Attempt) (this : Act) → LeavesOwn w (words_after w t this) t (Some this)
+pub words_history : (w : World) (t : Attempt) (this : Act) → LeavesOwn w (words_after w t this) t (Some this)
 unfolding words_after
 words_history w t (ExchangeClock old) = go (nat_eq w.clock old) refl
   where

@@ -9,7 +9,7 @@ use Rattle.stm_model.specs.Accesses.{next_at}
 use Rattle.stm_model.specs.After.{after_at, at, release_level_on, mark_on, ring_if, roll_on}
 use Rattle.stm_model.specs.Attempt.{Attempt, Close, Due, ReleaseLevel, Mark, RollBack, CommitClock, Write, held_at, has_prepared, unmarked_at, unstored_at, flies_at, holds, marks, stamp_of}
 use Rattle.stm_model.specs.Heap.{writes_to}
-use Rattle.stm_model.specs.Safe.{IsKept, EndingAt, EndsSo, EndsWith, GivesBack, HasBegun, HoldsNewest, PhaseAt, Safe, SafeAttempt, SafeStage, stamp_on}
+use Rattle.stm_model.specs.Safe.{EndingAt, EndsSo, EndsWith, GivesBack, HasBegun, HoldsNewest, PhaseAt, Safe, SafeAttempt, SafeStage, stamp_on}
 use Rattle.stm_model.specs.World.{IsCaller, Terms, World, attempt_of, cells_in, words_after, clock_after, found, seen_after, since_at}
 use Rattle.opacity.proofs.Asks.{given_follows}
 use Rattle.opacity.proofs.Cells.{AlikeAt}

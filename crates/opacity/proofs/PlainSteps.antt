@@ -1,30 +1,26 @@
 -- A step that leaves the clock, in a world that a table shows.
-use Rattle.std.proofs.Common.{◌≡◌, ℕ, Bool, true, false, List, Option, Some, None, ap, sym, ◌∙◌, refl, subst, if◌then◌else◌, ◌<◌, ◌++◌, ◌∷◌, []}
+use Rattle.std.proofs.Common.{◌≡◌, ℕ, IfSome, List, Option, Some, None, inl, inr, ap, sym, ◌∙◌, refl, subst, ◌<◌, ◌++◌, ◌∷◌, []}
 use Rattle.std.proofs.lemmas.List.{set-get_or}
-use Rattle.stm_model.specs.Accesses.{Act, LoadClock, SetPending, ExchangeClock, ExchangeMeta, ExchangeStatus, access_of, next, next_access, packed, word_of}
-use Rattle.meta_word.specs.Meta.{same_meta}
-use Rattle.meta_word.specs.Status.{same_status}
+use Rattle.stm_model.specs.Accesses.{Act, LoadClock, SetPending, ExchangeClock, access_of, next, next_access, packed, word_of}
 use Rattle.stm_model.specs.Attempt.{Attempt, Ended}
 use Rattle.stm_model.specs.History.{Entry}
 use Rattle.stm_model.specs.Safe.{Safe}
-use Rattle.stm_model.specs.World.{IsCaller, Looks, MayHappen, MeetsOwed, Steps, Terms, View, Waits, World, cells_in, happened, look, place_of, step, step_by, wait, with_meta, with_status, with_view, words_after, world_of}
+use Rattle.stm_model.specs.World.{IsCaller, Looks, MayHappen, MeetsOwed, Steps, Terms, View, Waits, World, cells_in, happened, look, place_of, step, step_by, wait, with_view, words_after, world_of}
 use Rattle.stm_model.specs.declared.access.Access.{Access}
 use Rattle.opacity.specs.Plain.{IsUndecided, ShowsAccess, ShowsSafe}
 use Rattle.opacity.specs.Words.{BringsWords, FieldsFit, IsOfTable, IsTable, effect, table_after}
+use Rattle.opacity.proofs.Effects.{words_history}
 use Rattle.opacity.proofs.Steps.{event_safe}
 use Rattle.opacity.proofs.WordSteps.{shows_after}
 use Rattle.opacity.proofs.TableSteps.{step_shown}
 
-if_history : (b : Bool) (v w : World) → v.history ≡ w.history → (if b then v else w).history ≡ w.history
-if_history true v w same = same
-if_history false v w same = refl
-
-words_history : (w : World) (t : Attempt) (act : Act) → IsUndecided (access_of act) → (words_after w t act).history ≡ w.history
-unfolding words_after IsUndecided access_of
-words_history w t (ExchangeClock old) undecided = absurd undecided
-words_history w t (ExchangeStatus p old new) undecided = if_history (same_status (w.status p) old) (with_status w p new) w refl
-words_history w t (ExchangeMeta cell old new) undecided = if_history (same_meta (w.meta cell) old) (with_meta w cell new) w refl
-words_history w t act undecided = refl
+-- The access is not the exchange of the clock, so the history stays.
+undecided_history : (w : World) (t : Attempt) (act : Act) → IsUndecided (access_of act) → (words_after w t act).history ≡ w.history
+unfolding IsUndecided access_of
+undecided_history w t act undecided = elim (words_history w t act) [
+  | inl same ↦ same
+  | inr won ↦ absurd (subst (λ (this : Option Act). IfSome this (λ each. IsUndecided (access_of each))) won.0 undecided)
+]
 
 same_access : (act : Act) (access : Access) → packed (Some act) ≡ Some access → access_of act ≡ access
 same_access act access is = cc
@@ -42,7 +38,7 @@ module _ (lawful : List ℕ → Type 0) (may : List ℕ → List ℕ → Type 0)
       let one : access_of act ≡ access = same_access act access made in
       let keeps : IsUndecided (access_of act) = subst IsUndecided (sym one) undecided in
       let shown = step_shown lawful may terms words history view p act safe table caller same (subst BringsWords (sym one) brings) in
-      let past : (step w p).history ≡ history = rw same (words_history w (view p).attempt act keeps) in
+      let past : (step w p).history ≡ history = rw same (undecided_history w (view p).attempt act keeps) in
       shown ∙ ap (λ (entries : List Entry). world_of terms (table_after terms words (access_of act)) entries (step w p).view) past
       ∙ ap (λ (each : Access). world_of terms (table_after terms words each) history (step w p).view) one
 

@@ -6,7 +6,7 @@ use Rattle.stm_model.specs.Accesses.{next_at, released}
 use Rattle.stm_model.specs.After.{after_at, at, release_on, ring_if}
 use Rattle.stm_model.specs.Attempt.{flies_at, Attempt, Close, Due, Release, Stage, Write, held_at, unmarked_at, unstored_at, holds, stamp_of}
 use Rattle.stm_model.specs.Heap.{writes_to}
-use Rattle.stm_model.specs.Safe.{IsKept, EndingAt, EndsSo, EndsWith, HasBegun, IsBeingWritten, PhaseAt, Safe, SafeAttempt, SafeStage, stamp_on, value_then}
+use Rattle.stm_model.specs.Safe.{EndingAt, EndsSo, EndsWith, HasBegun, IsBeingWritten, PhaseAt, Safe, SafeAttempt, SafeStage, stamp_on, value_then}
 use Rattle.stm_model.specs.World.{IsCaller, Terms, World, attempt_of, cells_in, words_after, clock_after, found, seen_after, since_at}
 use Rattle.stm_model.proofs.HistoryLemmas.{last_below, same_since_last}
 use Rattle.opacity.proofs.Cells.{AlikeAt}

@@ -3,10 +3,10 @@ use Rattle.std.proofs.Common.{◌≡◌, ℕ, ◌-◌, ◌<◌, ◌≤◌, Optio
 use Rattle.meta_word.specs.declared.status.Phase.{Phase}
 use Rattle.meta_word.specs.declared.status.Phase.TheVariants.{Preparing}
 use Rattle.stm_model.specs.declared.ending.Ending.{Ending}
-use Rattle.stm_model.specs.declared.ending.Ending.TheVariants.{Committed, Read, Rolled}
+use Rattle.stm_model.specs.declared.ending.Ending.TheVariants.{Committed, Rolled}
 use Rattle.stm_model.specs.Accesses.{Act, next_at}
 use Rattle.stm_model.specs.After.{after_at}
-use Rattle.stm_model.specs.Attempt.{Attempt, Close, Release, RollBack, Stage, StoreValues, Write, stamp_in}
+use Rattle.stm_model.specs.Attempt.{Attempt, Close, Release, RollBack, Stage, Write, stamp_in}
 use Rattle.stm_model.specs.History.{entry_after}
 use Rattle.stm_model.specs.Safe.{ClosingPhase, PhaseAt, EndingAt, EndsSo}
 use Rattle.stm_model.specs.World.{World, attempt_of, words_after, clock_after, entry_of, found, seen_after, since_at, step_by, with_view}

@@ -1,15 +1,14 @@
 -- The store of a value keeps the world safe.
-use Rattle.std.proofs.Common.{◌≡◌, ◌≢◌, ℕ, suc, nat_eq, ◌-◌, ◌<◌, ◌&&◌, true, false, Bool, Option, if◌then◌else◌, List, [], ◌∷◌, length, refl, sym, ap, ◌∙◌, arith, inl, inr, subst, slice_index}
+use Rattle.std.proofs.Common.{◌≡◌, ◌≢◌, ℕ, suc, nat_eq, ◌-◌, ◌<◌, ◌&&◌, true, false, Bool, if◌then◌else◌, List, [], ◌∷◌, length, refl, sym, ap, ◌∙◌, arith, inl, inr, subst, slice_index}
 use Rattle.std.proofs.lemmas.Bool.{cases_eq}
 use Rattle.std.proofs.lemmas.Bool.Decides.{nat_tests}
 use Rattle.meta_word.specs.declared.status.Phase.TheVariants.{Preparing}
-use Rattle.stm_model.specs.declared.ending.Ending.{Ending}
 use Rattle.stm_model.specs.Accesses.{next_at}
 use Rattle.stm_model.specs.After.{after_at, at, release_on, store_on}
 use Rattle.stm_model.specs.Attempt.{flies_at, Attempt, Release, Stage, StoreValues, Write, held_at, unmarked_at, unstored_at, holds, marks, stamp_of}
 use Rattle.stm_model.specs.Heap.{over, writes_to}
 use Rattle.stm_model.specs.History.{Entry, entry_after, state}
-use Rattle.stm_model.specs.Safe.{IsKept, EndingAt, EndsSo, EndsWith, HasBegun, IsBeingWritten, PhaseAt, Safe, SafeAttempt, SafeCell, SafeStage, stamp_on, value_then}
+use Rattle.stm_model.specs.Safe.{EndingAt, EndsSo, EndsWith, HasBegun, IsBeingWritten, PhaseAt, Safe, SafeAttempt, SafeCell, SafeStage, stamp_on, value_then}
 use Rattle.stm_model.specs.World.{IsCaller, Terms, View, World, attempt_of, cells_in, words_after, clock_after, entry_of, found, replaced, seen_after, since_at}
 use Rattle.stm_model.proofs.HeapLemmas.{over_found}
 use Rattle.stm_model.proofs.HistoryLemmas.{length-state, state-suc}

@@ -1,5 +1,5 @@
 -- What an access does to the words of a table is what it does to the world that they show.
-use Rattle.std.proofs.Common.{◌≡◌, ℕ, ◌+◌, ◌*◌, suc, ◌<◌, ◌^◌, ◌++◌, ◌∷◌, [], Bool, true, false, nat_eq, if◌then◌else◌, List, get_or, set, refl, sym, ap, ◌∙◌, arith, ◌⊎◌, inl, inr}
+use Rattle.std.proofs.Common.{◌≡◌, ℕ, ◌+◌, ◌*◌, suc, ◌<◌, ◌^◌, ◌++◌, ◌∷◌, [], Bool, true, false, nat_eq, if◌then◌else◌, List, Some, get_or, set, refl, sym, ap, ◌∙◌, arith, ◌⊎◌, inl, inr}
 use Rattle.std.proofs.lemmas.Bool.Decides.{nat_tests}
 use Rattle.std.proofs.lemmas.List.{set-get_or}
 use Rattle.meta_word.proofs.MetaLemmas.{meta_of-cleared, meta_of-meta_word, meta_of-or_changing, meta_of-or_pending, meta_word-meta_of}
@@ -15,6 +15,7 @@ use Rattle.stm_model.specs.World.{IsCaller, Terms, View, World, cells_in, entry_
 use Rattle.opacity.specs.Words.{FieldsFit, IsOfTable, IsTable, effect, table_after, word_found}
 use Rattle.opacity.proofs.Acquires.{same_parts, same_pending, same_whole}
 use Rattle.opacity.proofs.Dooms.{status_same}
+use Rattle.opacity.proofs.Effects.{words_history}
 use Rattle.opacity.proofs.ReadSteps.{same_number}
 use Rattle.opacity.proofs.Tables.{set_clock, set_meta, set_status, set_value, status_in, status_own}
 
@@ -128,26 +129,13 @@ module _ (terms : Terms) (words : List ℕ) (history : List Entry) (view : ℕ �
 
 -- ---- the history after it
 
-taken_history : (b : Bool) (history : List Entry) (next w : World) (t : Attempt) (act old : Act) → w.history ≡ history → next.history ≡ history ++ entry_of t ∷ [] → (b ≡ true → act ≡ old)
-    → ((if b then next else w).history ≡ history) ⊎ ((act ≡ old) × ((if b then next else w).history ≡ history ++ entry_of t ∷ []))
-taken_history true history next w t act old same grown is = inr (is refl, grown)
-taken_history false history next w t act old same grown is = inl same
-
-kept_history : (b : Bool) (history : List Entry) (next w : World) → w.history ≡ history → next.history ≡ history → (if b then next else w).history ≡ history
-kept_history true history next w same also = also
-kept_history false history next w same also = same
-
 pub history_after : (terms : Terms) (words : List ℕ) (history : List Entry) (view : ℕ → View) (t : Attempt) (act : Act)
     → (let after = words_after (world_of terms words history view) t act in (after.history ≡ history) ⊎ ((act ≡ ExchangeClock (get_or words 0 0)) × (after.history ≡ history ++ entry_of t ∷ [])))
-unfolding words_after world_of
-history_after terms words history view t (ExchangeClock old) =
-    let w = world_of terms words history view in
-    taken_history (nat_eq (get_or words 0 0) old) history (record w { clock = suc old; history = history ++ entry_of t ∷ [] }) w t (ExchangeClock old) (ExchangeClock (get_or words 0 0)) refl refl
-    (λ same. ap ExchangeClock (sym (same_number (get_or words 0 0) old same)))
-history_after terms words history view t (ExchangeStatus p old new) =
-    let w = world_of terms words history view in
-    inl (kept_history (same_status (status_in terms words p) old) history (with_status w p new) w refl refl)
-history_after terms words history view t (ExchangeMeta cell old new) =
-    let w = world_of terms words history view in
-    inl (kept_history (same_meta (meta_of (get_or words (terms.callers + 1 + 2 * cell) 0)) old) history (with_meta w cell new) w refl refl)
-history_after terms words history view t act = inl refl
+unfolding world_of
+history_after terms words history view t act = elim (words_history (world_of terms words history view) t act) [
+  | inl same ↦ inl same
+  | inr won ↦ inr (the_act act (ExchangeClock (get_or words 0 0)) won.0, won.1)
+]
+  where
+    the_act : (one other : Act) → Some one ≡ Some other → one ≡ other
+    the_act one other is = cc
