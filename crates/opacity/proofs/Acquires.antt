@@ -1,5 +1,6 @@
 -- The accesses that take a cell keep the world safe.
 use Rattle.std.proofs.Common.{◌⊎◌, ◌≡◌, ◌≢◌, ℕ, zero, suc, nat_eq, ◌<◌, ◌&&◌, ◌||◌, not, true, false, Bool, Some, None, Option, if◌then◌else◌, List, [], ◌∷◌, refl, sym, ap, ◌∙◌, arith, inl, inr, subst}
+use Rattle.std.proofs.lemmas.Bool.{eqb-false}
 use Rattle.std.proofs.lemmas.Bool.Decides.{nat_tests}
 use Rattle.meta_word.specs.Meta.{owned_by_another, same_bool, same_but_pending, same_meta}
 use Rattle.meta_word.specs.Policy.{dooms}
@@ -73,12 +74,6 @@ came_since meta other alike lost stays = by_bits meta.pending other.pending (rw 
     by_bits true before lost stays = refl
     by_bits false true lost stays = stays refl
     by_bits false false lost stays = cc
-
-some_owner : (owner : ℕ) → owner ≡ 0 → nat_eq owner 0 ≡ false → ⊥
-some_owner owner none test = grind (arith, nat_tests)
-
-apart : (first second : ℕ) → nat_eq first second ≡ false → second ≢ first
-apart first second test = grind (arith, nat_tests)
 
 nobody_else : (own owner : ℕ) → owner ≢ own → (not (nat_eq owner 0) && not (nat_eq owner own)) ≡ false → owner ≡ 0
 nobody_else own owner other test = grind (arith, nat_tests)
@@ -164,7 +159,7 @@ module _ (lawful : List ℕ → Type 0) (may : List ℕ → List ℕ → Type 0)
             (write, found_now cell write.in_range, record { nobody = nobody; quiet = free_quiet lawful may terms w safe cell write.in_range nobody; alike = same_refl (w.meta cell); pending = λ never. cc })
         free none false test =
             let nobody : (w.meta cell).owner ≡ 0 = nobodys here tt is cell value write none in
-            absurd (some_owner (w.meta cell).owner nobody test)
+            absurd (eqb-false (w.meta cell).owner 0 test nobody)
 
         go : (b : Bool) → owned_by_another t.own (w.meta cell) ≡ b → Fits terms w p (at t here) (if b
             then doom_or_again t cell value left doomed (w.meta cell)
@@ -180,7 +175,7 @@ module _ (lawful : List ℕ → Type 0) (may : List ℕ → List ℕ → Type 0)
         go : (b : Bool) → nat_eq note.version (w.meta cell).version ≡ b
             → Fits terms w p (at t here) (if b then acquiring t cell value left doomed (w.meta cell) else stopped t (Stale note.addr note.version (w.meta cell)))
         go true same = tries
-        go false other = stopped_open terms w p t here tt (phase_is terms w p here own is) (ending_is terms w p here own is) sound (Stale note.addr note.version (w.meta cell)) (inl (apart note.version (w.meta cell).version other), names_found t.notes cell note (w.meta cell) is_noted)
+        go false other = stopped_open terms w p t here tt (phase_is terms w p here own is) (ending_is terms w p here own is) sound (Stale note.addr note.version (w.meta cell)) (inl (λ same. eqb-false note.version (w.meta cell).version other (sym same)), names_found t.notes cell note (w.meta cell) is_noted)
 
     pub keeps_acquire : Safe lawful may terms (stepped w p (AcquireMeta cell value left doomed))
     unfolding next_at after_at words_after found seen_after since_at clock_after

@@ -1,6 +1,6 @@
 -- A cell of which nothing has changed, and how its owner holds it, stays safe.
 use Rattle.std.proofs.Common.{◌≡◌, ℕ, ◌-◌, ◌<◌, ◌≤◌, ◌⊎◌, ◌≢◌, Bool, true, false, nat_eq, if◌then◌else◌, length, refl, sym, ap, ◌∙◌, arith, inl, inr, slice_index}
-use Rattle.std.proofs.lemmas.Bool.{cases_eq}
+use Rattle.std.proofs.lemmas.Bool.{cases_eq, eq-eqb}
 use Rattle.std.proofs.lemmas.Bool.Decides.{nat_tests}
 use Rattle.meta_word.specs.declared.meta.Meta.{Meta}
 use Rattle.stm_model.specs.Attempt.{Attempt, holds, marks, stamp_of, unstored_at}
@@ -99,9 +99,6 @@ onward_of terms w v goes each = record {
       | inr on ↦ on
     ]
 
-owner_test : (owner p : ℕ) → owner ≡ p → nat_eq p owner ≡ true
-owner_test owner p same = grind (arith, nat_tests)
-
 -- Where one caller's attempt alone changes, and holds the cell alike, and the cell's words stay, nothing about the cell changes.
 module _ (terms : Terms) (w v : World) (p cell : ℕ) (safe : SafeCell terms w cell) (above : 0 < p)
     (others : (q : ℕ) → q ≢ p → attempt_of v q ≡ attempt_of w q) (alike : AlikeAt cell (attempt_of v p) (attempt_of w p)) where
@@ -109,7 +106,7 @@ module _ (terms : Terms) (w v : World) (p cell : ℕ) (safe : SafeCell terms w c
       → P (attempt_of v (w.meta cell).owner) (attempt_of w (w.meta cell).owner)
   at_owner P same own = elim (cases_eq (w.meta cell).owner p) [
     | inl is ↦
-        let holder : holds (attempt_of w p) cell ≡ true = safe.owner p above ∙ owner_test (w.meta cell).owner p is in
+        let holder : holds (attempt_of w p) cell ≡ true = safe.owner p above ∙ eq-eqb p (w.meta cell).owner (sym is) in
         rw is (own holder)
     | inr other ↦ rw (others (w.meta cell).owner other) (same (attempt_of w (w.meta cell).owner))
   ]

@@ -1,6 +1,6 @@
 -- The accesses of a commit that is not decided yet keep the world safe.
 use Rattle.std.proofs.Common.{length, ◌≡◌, ℕ, suc, nat_eq, nat_lt, ◌<◌, ◌≤◌, ◌++◌, not, true, false, Bool, Some, None, Option, if◌then◌else◌, List, [], ◌∷◌, refl, ◌∙◌, arith, inr}
-use Rattle.std.proofs.lemmas.Bool.{and_parts, not-true}
+use Rattle.std.proofs.lemmas.Bool.{and_parts, eqb-true, not-true}
 use Rattle.std.proofs.lemmas.Bool.Decides.{nat_tests}
 use Rattle.meta_word.specs.Meta.{changing_by_another, still_has}
 use Rattle.meta_word.specs.declared.status.Phase.{Phase}
@@ -22,7 +22,7 @@ use Rattle.stm_model.proofs.EvidenceLemmas.{is_stale}
 use Rattle.opacity.proofs.Decides.{decided_safe}
 use Rattle.opacity.proofs.Ends.{MayRoll, rolled_fits}
 use Rattle.opacity.proofs.Fits.{Fits, ending_is, phase_is, safe_local, safe_seen, stage_is}
-use Rattle.opacity.proofs.ReadSteps.{knows_attempt, knows_clock, same_number}
+use Rattle.opacity.proofs.ReadSteps.{knows_attempt, knows_clock}
 use Rattle.opacity.proofs.Samples.{not_written, sampled_all, sampled_more, sampled_start, still_current}
 use Rattle.opacity.proofs.Shown.{all_at, names_checked}
 use Rattle.opacity.proofs.Stands.{IsPlain, Sound, follows_at, placed, sound_at, sound_of}
@@ -103,7 +103,7 @@ module _ (terms : Terms) (w : World) (p : ℕ) (t : Attempt) (here : Stage) (wei
   checks lost clock [] some low sampled = go (nat_eq clock t.settings.clock) refl
     where
       go : (b : Bool) → nat_eq clock t.settings.clock ≡ b → Fits terms w p (at t here) (if b then rolled (record t { prefix = clock }) (ClockEnd clock) else at t (Decide lost clock))
-      go true end = rolled_fits terms w p t (record t { prefix = clock }) here (ClockEnd clock) (same_number clock t.settings.clock end, tt) may_roll (sound_at terms w p t clock sound sampled.high (sampled_all w t clock terms.opening sampled sound.notes)) refl refl sampled.low refl
+      go true end = rolled_fits terms w p t (record t { prefix = clock }) here (ClockEnd clock) (eqb-true clock t.settings.clock end, tt) may_roll (sound_at terms w p t clock sound sampled.high (sampled_all w t clock terms.opening sampled sound.notes)) refl refl sampled.low refl
       go false room = to_weigh (Decide lost clock) tt (some, sampled, below_limit clock terms.limit t.settings.clock sound.limit low room)
   checks lost clock (note ∷ behind) some low sampled = to_weigh (CommitNote lost clock note behind) tt (some, sampled)
 
@@ -151,7 +151,7 @@ module _ (lawful : List ℕ → Type 0) (may : List ℕ → List ℕ → Type 0)
           let current : IsCurrent terms.opening w.history t.prefix note = all_at (IsCurrent terms.opening w.history t.prefix) sampled.checked behind t.notes note sampled.notes own.notes in
           let quiet : changing_by_another p (w.meta note.addr.0) ≡ false = rw own.own at (not-true (changing_by_another t.own (w.meta note.addr.0)) tests.1) in
           let none : stamp_on w note.addr.0 ≡ 0 = not_written lawful may terms w safe p note.addr.0 within (no_stamp stage tt is) quiet in
-          let still = still_current lawful may terms w safe t.prefix clock note within none (same_number _ _ tests.0) current sampled.low sampled.high in
+          let still = still_current lawful may terms w safe t.prefix clock note within none (eqb-true _ _ tests.0) current sampled.low sampled.high in
           checks terms w p t stage tt (phase_is terms w p stage own is) (ending_is terms w p stage own is) sound lost clock behind at_stage.0 (omega (arith, sampled.high, safe.clock, safe.limit)) (sampled_more w t clock note behind sampled still)
       go false moved = rolled_fits terms w p t t stage (Stale note.addr note.version (w.meta note.addr.0)) (
         is_stale t.own note.version (w.meta note.addr.0) moved,
@@ -159,9 +159,6 @@ module _ (lawful : List ℕ → Type 0) (may : List ℕ → List ℕ → Type 0)
       ) (may_roll terms w p t stage tt (phase_is terms w p stage own is) (ending_is terms w p stage own is) sound) sound refl refl (omega arith) refl
 
   -- ---- the exchange of the clock
-
-  turned : (m n : ℕ) → nat_eq m n ≡ nat_eq n m
-  turned m n = grind (arith, nat_tests)
 
   lost_fits : (lost clock : ℕ) → t.stage ≡ Decide lost clock → nat_eq w.clock clock ≡ false → Fits terms w p (at t (Decide lost clock)) (if nat_lt lost t.settings.tries then at t (CommitClock (suc lost)) else rolled t (ClockMoved clock w.clock))
   unfolding SafeStage Evidence NamesNote
@@ -191,5 +188,5 @@ module _ (lawful : List ℕ → Type 0) (may : List ℕ → List ℕ → Type 0)
                 else if nat_lt lost t.settings.tries then at t (CommitClock (suc lost)) else rolled t (ClockMoved clock w.clock);
             seen = if b then suc clock else (w.view p).seen;
           }))
-      go true won = decided_safe lawful may terms w p safe caller lost clock (run_all (committing t.now.hooks)) is (same_number w.clock clock won) (owes (same_number w.clock clock won))
+      go true won = decided_safe lawful may terms w p safe caller lost clock (run_all (committing t.now.hooks)) is (eqb-true w.clock clock won) (owes (eqb-true w.clock clock won))
       go false lost_it = safe_local lawful may terms w p safe caller (Decide lost clock) is _ (lost_fits lost clock is lost_it)

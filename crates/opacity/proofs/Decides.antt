@@ -1,7 +1,7 @@
 -- The exchange of the clock that is won keeps the world safe, and the law of heaps.
 use Rattle.std.proofs.Common.{◌≡◌, ◌≢◌, ℕ, suc, nat_eq, ◌-◌, ◌<◌, ◌≤◌, ◌⊎◌, ◌&&◌, not, true, false, Bool, Some, None, cond, if◌then◌else◌, List, [], ◌∷◌, ◌++◌, length, refl, sym, ap, ◌∙◌, arith, inl, inr, subst, slice_index}
 use Rattle.std.specs.List.{All}
-use Rattle.std.proofs.lemmas.Bool.{cases_Bool, cases_eq, cases_lt}
+use Rattle.std.proofs.lemmas.Bool.{cases_Bool, cases_eq, cases_lt, eq-eqb}
 use Rattle.std.proofs.lemmas.Bool.Decides.{nat_tests}
 use Rattle.std.proofs.lemmas.List.{length_push}
 use Rattle.meta_word.specs.declared.status.Phase.TheVariants.{Preparing}
@@ -153,9 +153,6 @@ module _ (lawful : List ℕ → Type 0) (may : List ℕ → List ℕ → Type 0)
         let marked : marks t cell ≡ true = subst (λ (s : Stage). (writes_to (held_at t.now.writes s) cell && not (writes_to (unmarked_at t.phase t.now.writes s) cell)) ≡ true) (sym is) (rw written refl) in
         (safe.cells cell within).changing ∙ rw mine marked
 
-    own_number : nat_eq p p ≡ true
-    own_number = grind (arith, nat_tests)
-
     value_before : (n : ℕ) → n ≡ length w.history → w.value cell ≡ value_then terms after n cell
     value_before n here =
         let settled : HoldsNewest terms w cell = (safe.cells cell within).settled stamp_before in
@@ -175,7 +172,7 @@ module _ (lawful : List ℕ → Type 0) (may : List ℕ → List ℕ → Type 0)
     cell_after : SafeCell terms after cell
     cell_after = record {
       owner = λ q above. elim (cases_eq q p) [
-        | inl same ↦ rw (same, own_after, (stores cell).held, written, mine) (sym own_number)
+        | inl same ↦ rw (same, own_after, (stores cell).held, written, mine) (sym (eq-eqb p p refl))
         | inr other ↦ rw (others_after q other) ((safe.cells cell within).owner q above)
       ];
       changing = rw (mine, own_after, (stores cell).marked, written) marked_before;

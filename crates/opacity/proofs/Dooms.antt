@@ -1,6 +1,6 @@
 -- The accesses that look whether a cell's owner can be doomed, and doom it, keep the world safe.
 use Rattle.std.proofs.Common.{◌≡◌, ◌≢◌, ℕ, nat_eq, ◌&&◌, not, true, false, Bool, if◌then◌else◌, List, refl, sym, ap, ◌∙◌, arith, inl, inr}
-use Rattle.std.proofs.lemmas.Bool.{and_parts, cases_eq}
+use Rattle.std.proofs.lemmas.Bool.{and_parts, cases_eq, eqb-true}
 use Rattle.std.proofs.lemmas.Bool.Decides.{nat_tests}
 use Rattle.meta_word.specs.Meta.{owned_by_another}
 use Rattle.meta_word.specs.Status.{phase_number, same_status}
@@ -16,7 +16,7 @@ use Rattle.stm_model.specs.World.{IsCaller, Terms, World, attempt_of, words_afte
 use Rattle.opacity.proofs.Acquires.{nobodys, found_now, taken_again, to_taking}
 use Rattle.opacity.proofs.Fits.{Fits, ending_is, phase_is, safe_seen, stage_is}
 use Rattle.opacity.proofs.Places.{replaced_else, replaced_here}
-use Rattle.opacity.proofs.ReadSteps.{knows_attempt, same_number}
+use Rattle.opacity.proofs.ReadSteps.{knows_attempt}
 use Rattle.opacity.proofs.Shown.{conflict_shown, write_shown}
 use Rattle.opacity.proofs.Stands.{Sound, sound_of}
 use Rattle.opacity.proofs.Stepping.{stepped}
@@ -36,8 +36,8 @@ phase_by_number phase other same = grind arith
 pub status_same : (old status : TxnStatus) → same_status old status ≡ true → old ≡ status
 status_same old status same =
     let tests = and_parts (nat_eq old.serial status.serial) (nat_eq (phase_number old.phase) (phase_number status.phase)) same in
-    let serial : old.serial ≡ status.serial = same_number old.serial status.serial tests.0 in
-    let phase : old.phase ≡ status.phase = phase_by_number old.phase status.phase (same_number _ _ tests.1) in
+    let serial : old.serial ≡ status.serial = eqb-true old.serial status.serial tests.0 in
+    let phase : old.phase ≡ status.phase = phase_by_number old.phase status.phase (eqb-true _ _ tests.1) in
     ap (λ (n : ℕ). record { serial = n; phase = old.phase }) serial ∙ ap (λ (f : Phase). record { serial = status.serial; phase = f }) phase
 
 active_number : (phase : Phase) → phase_number phase ≡ 1 → phase ≡ Active
@@ -50,8 +50,8 @@ active_number Doomed number = absurd (omega arith)
 dooms_word : (old status : TxnStatus) → same_status old status ≡ true → status.phase ≡ Active → (old.phase ≡ Active) × (doomed status ≡ doomed old)
 dooms_word old status same active =
     let tests = and_parts (nat_eq old.serial status.serial) (nat_eq (phase_number old.phase) (phase_number status.phase)) same in
-    let serial : old.serial ≡ status.serial = same_number old.serial status.serial tests.0 in
-    let number : phase_number old.phase ≡ phase_number status.phase = same_number _ _ tests.1 in
+    let serial : old.serial ≡ status.serial = eqb-true old.serial status.serial tests.0 in
+    let number : phase_number old.phase ≡ phase_number status.phase = eqb-true _ _ tests.1 in
     let one : phase_number status.phase ≡ 1 = rw active refl in
     (active_number old.phase (number ∙ one), ap (λ (n : ℕ). record { serial = n; phase = Doomed }) (sym serial))
 
@@ -97,7 +97,7 @@ module _ (lawful : List ℕ → Type 0) (may : List ℕ → List ℕ → Type 0)
       go : (b : Bool) → (nat_eq (w.meta cell).owner first.owner && not (w.meta cell).changing) ≡ b
           → Fits terms w p (at t stage) (if b then at t (DoomOwner cell value left first (w.meta cell) status) else acquire_again t cell value left true first (w.meta cell))
       go true same =
-          let owner : (w.meta cell).owner ≡ first.owner = same_number _ _ (and_parts (nat_eq (w.meta cell).owner first.owner) (not (w.meta cell).changing) same).0 in
+          let owner : (w.meta cell).owner ≡ first.owner = eqb-true _ _ (and_parts (nat_eq (w.meta cell).owner first.owner) (not (w.meta cell).changing) same).0 in
           let taken : WasTaken terms w t cell (w.meta cell) = record { another = rw owner at_stage.1.another; found = found_now lawful may terms w p safe caller cell at_stage.0.in_range } in
           to_taking terms w p t stage tt (phase_is terms w p stage own is) (ending_is terms w p stage own is) sound (DoomOwner cell value left first (w.meta cell) status) tt tt (at_stage.0, at_stage.1, taken, owner, at_stage.2)
       go false other =

@@ -1,6 +1,6 @@
 -- What an event does to the history, to others' views and to status words.
 use Rattle.std.proofs.Common.{◌≡◌, ◌≢◌, ◌⊎◌, ◌++◌, ℕ, nat_eq, suc, Bool, true, false, if◌then◌else◌, Option, Some, None, List, [], ◌∷◌, refl, sym, ap, ◌∙◌, inl, inr}
-use Rattle.std.proofs.lemmas.Bool.{cases_eq}
+use Rattle.std.proofs.lemmas.Bool.{cases_eq, eqb-true}
 use Rattle.meta_word.specs.declared.status.Phase.TheVariants.{Active, Doomed, Idle, Preparing}
 use Rattle.meta_word.specs.declared.status.TxnStatus.{TxnStatus}
 use Rattle.stm_model.specs.Accesses.{Act, StoreStatus, ExchangeClock, ExchangeMeta, ExchangeStatus, active, doomed, next, next_at, unless_due}
@@ -13,7 +13,6 @@ use Rattle.opacity.specs.Effects.{IsToDoom, WinsClock, caller_of}
 use Rattle.opacity.proofs.Dooms.{another_number, status_same}
 use Rattle.opacity.proofs.Fits.{stage_is}
 use Rattle.opacity.proofs.Places.{replaced_else, replaced_here}
-use Rattle.opacity.proofs.ReadSteps.{same_number}
 use Rattle.opacity.proofs.Stepping.{step_is, stepped_by}
 
 -- ---- views
@@ -59,7 +58,7 @@ unfolding words_after
 words_history w t (ExchangeClock old) = go (nat_eq w.clock old) refl
   where
     go : (b : Bool) → nat_eq w.clock old ≡ b → LeavesOwn w (if b then record w { clock = suc old; history = w.history ++ entry_of t ∷ [] } else w) t (Some (ExchangeClock old))
-    go true won = inr (ap (λ (n : ℕ). Some (ExchangeClock n)) (sym (same_number w.clock old won)), refl)
+    go true won = inr (ap (λ (n : ℕ). Some (ExchangeClock n)) (sym (eqb-true w.clock old won)), refl)
     go false lost = inl refl
 words_history w t (ExchangeStatus p old new) = inl (if_history (same_status (w.status p) old) (with_status w p new) w refl)
 words_history w t (ExchangeMeta cell old new) = inl (if_history (same_meta (w.meta cell) old) _ w refl)

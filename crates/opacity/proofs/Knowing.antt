@@ -1,5 +1,6 @@
 -- What a caller knows stays within what it has seen.
 use Rattle.std.proofs.Common.{◌≡◌, ℕ, zero, suc, ◌≤◌, Bool, true, false, not, ◌&&◌, nat_eq, nat_lt, if◌then◌else◌, List, [], ◌∷◌, length, drop, Option, Some, None, refl, subst, arith}
+use Rattle.std.proofs.lemmas.Bool.{eqb-true}
 use Rattle.meta_word.specs.Meta.{still_has, changing_by_another, owned_by_another, same_but_pending, same_meta}
 use Rattle.meta_word.specs.Status.{same_status}
 use Rattle.meta_word.specs.Policy.{dooms, looks}
@@ -22,7 +23,6 @@ use Rattle.std.specs.Map.{lookup}
 use Rattle.stm_model.specs.Moves.{Begins, Does, EndsLate, Forgets, OutOfMemory, Move, Takes, asked_at, asked_going, asked_stopped, conclude, did_first, late_over_at, moved, moved_on, read_buffered, read_noted, turn_to, undo_level}
 use Rattle.stm_model.specs.World.{View, World, found, seen_after}
 use Rattle.opacity.specs.Known.{IsKnown, clock_at}
-use Rattle.opacity.proofs.ReadSteps.{same_number}
 
 -- the same of an attempt, for so many entries
 abbrev pub Within : ℕ → Attempt → Type 0
@@ -184,7 +184,7 @@ seen_more w view LoadClock low = low
 seen_more w view (ExchangeClock old) low = go (nat_eq w.clock old) refl
   where
     go : (b : Bool) → nat_eq w.clock old ≡ b → view.seen ≤ (if b then suc old else view.seen)
-    go true same = omega (arith, low, same_number w.clock old same)
+    go true same = omega (arith, low, eqb-true w.clock old same)
     go false same = omega arith
 seen_more w view act low = omega arith
 

@@ -1,6 +1,6 @@
 -- Each event of a caller keeps its attempt alone, where no other caller has one in flight.
 use Rattle.std.proofs.Common.{◌≡◌, ◌≢◌, ◌⊎◌, ℕ, nat_eq, nat_lt, ◌<◌, ◌≤◌, ◌&&◌, not, true, false, Bool, if◌then◌else◌, List, length, refl, sym, ap, ◌∙◌, arith, inl, inr}
-use Rattle.std.proofs.lemmas.Bool.{and_from, and_right, cases_eq}
+use Rattle.std.proofs.lemmas.Bool.{and_from, and_right, cases_eq, eq-eqb}
 use Rattle.std.proofs.lemmas.Bool.Decides.{nat_tests}
 use Rattle.meta_word.specs.Meta.{changing_by_another, owned_by_another, still_has}
 use Rattle.stm_model.specs.declared.note.Note.{Note}
@@ -11,12 +11,6 @@ use Rattle.stm_model.specs.World.{IsCaller, Terms, World, attempt_of, cells_in}
 use Rattle.opacity.specs.Alone.{IsLone}
 use Rattle.opacity.proofs.Samples.{not_written}
 use Rattle.opacity.proofs.Touch.{ended_holds}
-
-pub not_less : (m n : ℕ) → n ≤ m → nat_lt m n ≡ false
-not_less m n low = grind (arith, nat_tests)
-
-pub same_test : (m n : ℕ) → m ≡ n → nat_eq m n ≡ true
-same_test m n same = grind (arith, nat_tests)
 
 nobody_else : (own owner : ℕ) → (owner ≡ 0) ⊎ (owner ≡ own) → (not (nat_eq owner 0) && not (nat_eq owner own)) ≡ false
 nobody_else own owner is = grind (arith, nat_tests)
@@ -35,9 +29,6 @@ module _ (lawful : List ℕ → Type 0) (may : List ℕ → List ℕ → Type 0)
   own : SafeAttempt terms w p t
   own = safe.attempts p caller
 
-  own_test : (n : ℕ) → nat_eq n n ≡ true
-  own_test n = grind (arith, nat_tests)
-
   owner_here : (cell : ℕ) → cell < cells_in terms → ((w.meta cell).owner ≡ 0) ⊎ ((w.meta cell).owner ≡ t.own)
   owner_here cell within = go (cases_eq (w.meta cell).owner 0) (cases_eq (w.meta cell).owner p)
     where
@@ -47,7 +38,7 @@ module _ (lawful : List ℕ → Type 0) (may : List ℕ → List ℕ → Type 0)
       go (inr some) (inr other) =
           let owner = (w.meta cell).owner in
           let free : holds (attempt_of w owner) cell ≡ false = ended_holds (attempt_of w owner) cell (lone owner other) in
-          let held : holds (attempt_of w owner) cell ≡ true = (safe.cells cell within).owner owner (omega arith) ∙ own_test owner in
+          let held : holds (attempt_of w owner) cell ≡ true = (safe.cells cell within).owner owner (omega arith) ∙ eq-eqb owner owner refl in
           let never : true ≡ false = sym held ∙ free in
           cc
 
@@ -58,7 +49,7 @@ module _ (lawful : List ℕ → Type 0) (may : List ℕ → List ℕ → Type 0)
   not_changing cell within = and_right (w.meta cell).changing (owned_by_another t.own (w.meta cell)) (not_another cell within)
 
   pub still : (cell version : ℕ) → cell < cells_in terms → (w.meta cell).version ≡ version → still_has t.own version (w.meta cell) ≡ true
-  still cell version within same = and_from (nat_eq (w.meta cell).version version) (not (changing_by_another t.own (w.meta cell))) (same_test _ _ same) (rw (not_changing cell within) refl)
+  still cell version within same = and_from (nat_eq (w.meta cell).version version) (not (changing_by_another t.own (w.meta cell))) (eq-eqb _ _ same) (rw (not_changing cell within) refl)
 
   -- a cell that no decided writer owns has its last writer's version
   newest : (cell : ℕ) → cell < cells_in terms → stamp_of t ≡ 0 → (w.meta cell).version ≡ last w.history (length w.history) cell

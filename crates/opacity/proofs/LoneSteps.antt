@@ -1,5 +1,6 @@
 -- Each access of an attempt keeps it alone, where no other caller has one in flight.
 use Rattle.std.proofs.Common.{◌≡◌, ◌≢◌, ℕ, suc, nat_eq, nat_lt, ◌<◌, ◌≤◌, ◌&&◌, ◌++◌, not, true, false, Bool, Some, None, Option, if◌then◌else◌, List, [], ◌∷◌, length, refl, sym, ap, ◌∙◌, arith, subst}
+use Rattle.std.proofs.lemmas.Bool.{eq-eqb, le-ltb}
 use Rattle.meta_word.specs.Meta.{changing_by_another, owned_by_another, still_has, same_but_pending, same_meta}
 use Rattle.meta_word.specs.declared.meta.Meta.{Meta}
 use Rattle.meta_word.specs.declared.status.Phase.TheVariants.{Doomed as DoomedPhase, Preparing}
@@ -18,7 +19,7 @@ use Rattle.stm_model.specs.World.{IsCaller, Terms, World, attempt_of, cells_in, 
 use Rattle.opacity.specs.Alone.{AloneAt, EndsByItself, GoesAlone, IsLone}
 use Rattle.opacity.proofs.Acquires.{nobodys, same_whole}
 use Rattle.opacity.proofs.Fits.{ending_is, stage_is}
-use Rattle.opacity.proofs.Lone.{chosen, not_another, not_changing, not_less, note_now, passed, same_test, still}
+use Rattle.opacity.proofs.Lone.{chosen, not_another, not_changing, note_now, passed, still}
 use Rattle.opacity.proofs.ReadSteps.{no_stamp, version_length}
 use Rattle.opacity.proofs.Shown.{all_at, found_note}
 use Rattle.opacity.proofs.Solo.{goes_back, goes_check, goes_give_back, goes_mark, goes_plain, goes_release, goes_store}
@@ -56,7 +57,7 @@ module _ (lawful : List ℕ → Type 0) (may : List ℕ → List ℕ → Type 0)
       let here : t.prefix ≡ n = solo_is (ReadMeta cell left) is in
       let low : (w.meta cell).version ≤ t.prefix = omega (arith, here, version_length terms w cell (safe.cells cell read.in_range)) in
       passed Here (changing_by_another t.own (w.meta cell)) _ _ (not_changing lawful may terms w p safe caller lone cell read.in_range)
-      (passed Here (nat_lt t.prefix (w.meta cell).version) _ _ (not_less t.prefix (w.meta cell).version low)
+      (passed Here (nat_lt t.prefix (w.meta cell).version) _ _ (le-ltb t.prefix (w.meta cell).version low)
       (goes_plain n w.meta t calm (ReadValue cell left (w.meta cell)) tt (here, refl)))
 
   second_look : (cell left : ℕ) (first : Meta) (value : ℕ) → t.stage ≡ Validate cell left first value → Here (validated t cell left first value (w.meta cell))
@@ -75,7 +76,7 @@ module _ (lawful : List ℕ → Type 0) (may : List ℕ → List ℕ → Type 0)
       let none : owned_by_another t.own (w.meta cell) ≡ false = not_another lawful may terms w p safe caller lone cell write.in_range in
       let nobody : (w.meta cell).owner ≡ 0 = nobodys lawful may terms w p safe caller (AcquireMeta cell value left tried) tt is cell value write none in
       passed Here (owned_by_another t.own (w.meta cell)) _ _ none
-      (chosen Here (nat_eq (w.meta cell).owner 0) _ _ (same_test (w.meta cell).owner 0 nobody) (goes_plain n w.meta t calm (Acquire cell value left tried (w.meta cell) (w.meta cell) false) tt (here, refl)))
+      (chosen Here (nat_eq (w.meta cell).owner 0) _ _ (eq-eqb (w.meta cell).owner 0 nobody) (goes_plain n w.meta t calm (Acquire cell value left tried (w.meta cell) (w.meta cell) false) tt (here, refl)))
 
   by_note : (cell value left : ℕ) (tried : Bool) → t.stage ≡ AcquireMeta cell value left tried → (found : Option Note) → note_of t.notes cell ≡ found → Here (meta_acquired t cell value left tried found (w.meta cell))
   by_note cell value left tried is None noted = acquires cell value left tried is
@@ -85,7 +86,7 @@ module _ (lawful : List ℕ → Type 0) (may : List ℕ → List ℕ → Type 0)
       let within = found_note (λ each. each.addr.0 < cells_in terms) t.notes cell note own.noted_cells noted in
       let version = note_now lawful may terms w p safe caller lone note within.0 (no_stamp lawful may terms w p safe caller (AcquireMeta cell value left tried) tt is) here current.0 in
       let same : note.version ≡ (w.meta cell).version = sym version ∙ ap (λ (c : ℕ). (w.meta c).version) current.1 in
-      chosen Here (nat_eq note.version (w.meta cell).version) _ _ (same_test note.version (w.meta cell).version same) (acquires cell value left tried is)
+      chosen Here (nat_eq note.version (w.meta cell).version) _ _ (eq-eqb note.version (w.meta cell).version same) (acquires cell value left tried is)
 
   checks : (lost clock : ℕ) (note : Note) (behind : List Note) → t.stage ≡ CommitNote lost clock note behind → Here (note_validated t lost clock note behind (w.meta note.addr.0))
   unfolding note_validated SafeStage EndingAt
@@ -113,7 +114,7 @@ module _ (lawful : List ℕ → Type 0) (may : List ℕ → List ℕ → Type 0)
   unfolding next_at words_after found after_at decided EndsByItself
   decides lost clock is =
       let solo : (t.prefix ≡ n) × (clock ≡ n) = solo_is (Decide lost clock) is in
-      go (nat_eq w.clock clock) (same_test w.clock clock (safe.clock ∙ sym solo.1))
+      go (nat_eq w.clock clock) (eq-eqb w.clock clock (safe.clock ∙ sym solo.1))
     where
       go : (b : Bool) → b ≡ true
           → GoesAlone (length (if b then record w { clock = suc clock; history = w.history ++ entry_of t ∷ [] } else w).history) (if b then record w { clock = suc clock; history = w.history ++ entry_of t ∷ [] } else w).meta

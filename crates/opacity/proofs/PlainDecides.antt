@@ -1,5 +1,6 @@
 -- The exchange of the clock, in a world that a table shows with its history.
 use Rattle.std.proofs.Common.{◌≡◌, ◌≢◌, ℕ, suc, ◌+◌, Bool, true, false, List, [], ◌∷◌, ◌++◌, Some, ap, sym, ◌∙◌, refl, subst, if◌then◌else◌, ◌<◌, ◌^◌, nat_eq, get_or, set, take, length, slice_get, arith}
+use Rattle.std.proofs.lemmas.Bool.{eq-eqb, ne_eqb}
 use Rattle.std.proofs.Math.Seq.{take-suc}
 use Rattle.std.proofs.lemmas.Bool.Decides.{nat_tests}
 use Rattle.std.proofs.lemmas.List.{map-append, set-get_or}
@@ -88,17 +89,11 @@ module _ (lawful : List ℕ → Type 0) (may : List ℕ → List ℕ → Type 0)
       safe = event_safe lawful may terms w (Steps p) caller owes safe;
     }
 
-    won_tests : get_or words 0 0 ≡ old → nat_eq (get_or words 0 0) old ≡ true
-    won_tests same = grind (arith, nat_tests)
-
-    lost_tests : get_or words 0 0 ≢ old → nat_eq (get_or words 0 0) old ≡ false
-    lost_tests other = grind (arith, nat_tests)
-
     pub decides_won : get_or words 0 0 ≡ old → (entry : Entry) → entry ≡ entry_of t → ShowsSafe lawful may terms (set words 0 (old + 1)) (history ++ entry ∷ []) (step w p)
     decides_won same entry one =
         let more : old + 1 ≡ suc old = omega arith in
-        rw (one, more) (decides true (won_tests same))
+        rw (one, more) (decides true (eq-eqb (get_or words 0 0) old same))
 
     pub decides_lost : get_or words 0 0 ≢ old → ShowsSafe lawful may terms words history (step w p)
     decides_lost other =
-        subst (λ (ws : List ℕ). ShowsSafe lawful may terms ws history (step w p)) (set-get_or words 0 0) (decides false (lost_tests other))
+        subst (λ (ws : List ℕ). ShowsSafe lawful may terms ws history (step w p)) (set-get_or words 0 0) (decides false (ne_eqb (get_or words 0 0) old other))

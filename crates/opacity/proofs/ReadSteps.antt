@@ -1,6 +1,6 @@
 -- The accesses of a read keep the world safe.
-use Rattle.std.proofs.Common.{◌≡◌, ◌≢◌, ℕ, zero, suc, nat_eq, nat_lt, ◌-◌, ◌<◌, ◌≤◌, not, true, false, Bool, Some, None, if◌then◌else◌, IsFalse, List, [], ◌∷◌, ◌++◌, length, map, refl, arith, inl, inr}
-use Rattle.std.proofs.lemmas.Bool.{and_parts, cases_eq, not-true}
+use Rattle.std.proofs.Common.{◌≡◌, ◌≢◌, ℕ, zero, suc, nat_eq, nat_lt, ◌-◌, ◌<◌, ◌≤◌, not, true, false, Bool, Some, None, if◌then◌else◌, IsFalse, List, [], ◌∷◌, ◌++◌, length, map, refl, sym, arith, inl, inr}
+use Rattle.std.proofs.lemmas.Bool.{and_parts, cases_eq, eqb-true, ltb-false, ne_eqb, not-true}
 use Rattle.std.proofs.lemmas.Bool.Decides.{eqb_tells, nat_tests}
 use Rattle.std.proofs.lemmas.List.{map_push}
 use Rattle.std.proofs.lemmas.List.Elements.{All-push}
@@ -39,20 +39,11 @@ unnoted : (notes : List Note) (cell : ℕ) → note_of notes cell ≡ None → a
 unnoted [] cell none = refl
 unnoted (note ∷ notes) cell none = elim (eqb_tells note.addr.0 cell) [
   | inl same ↦ absurd (some (rw same.0 at none))
-  | inr other ↦ rw (turned note.addr.0 cell other.1) (unnoted notes cell (rw other.0 at none))
+  | inr other ↦ rw (ne_eqb cell note.addr.0 (λ same. other.1 (sym same))) (unnoted notes cell (rw other.0 at none))
 ]
   where
     some : Some note ≡ None → ⊥
     some is = cc
-
-    turned : (first second : ℕ) → first ≢ second → nat_eq second first ≡ false
-    turned first second apart = grind (arith, nat_tests)
-
-not_less : (m n : ℕ) → nat_lt m n ≡ false → n ≤ m
-not_less m n test = grind (arith, nat_tests)
-
-pub same_number : (m n : ℕ) → nat_eq m n ≡ true → m ≡ n
-same_number m n test = grind (arith, nat_tests)
 
 module _ (terms : Terms) (w : World) (p : ℕ) (t : Attempt) (here : Stage) (is_open : IsOpen here) (phase : PhaseAt here t.ending t.phase) (ending : EndingAt here t.ending) (sound : Sound terms w p t) where
   to : (there : Stage) → IsOpen there → IsPlain there → SafeStage terms w t there → Fits terms w p (at t here) (at t there)
@@ -70,7 +61,7 @@ module _ (terms : Terms) (w : World) (p : ℕ) (t : Attempt) (here : Stage) (is_
       next : (b : Bool) → nat_lt t.prefix (w.meta cell).version ≡ b → IsFalse (changing_by_another t.own (w.meta cell))
           → Fits terms w p (at t here) (if b then at t (ExtendClock cell left (w.meta cell)) else at t (ReadValue cell left (w.meta cell)))
       next true less quiet = to (ExtendClock cell left (w.meta cell)) tt tt (read, record { quiet = quiet; behind = omega arith })
-      next false more quiet = to (ReadValue cell left (w.meta cell)) tt tt (read, record { quiet = quiet; behind = omega arith }, not_less t.prefix (w.meta cell).version more)
+      next false more quiet = to (ReadValue cell left (w.meta cell)) tt tt (read, record { quiet = quiet; behind = omega arith }, ltb-false t.prefix (w.meta cell).version more)
 
       go : (b : Bool) → changing_by_another t.own (w.meta cell) ≡ b
           → Fits terms w p (at t here) (if b then read_again t cell left (ReadConflict (addr_of cell) (w.meta cell)) else
@@ -168,7 +159,7 @@ module _ (lawful : List ℕ → Type 0) (may : List ℕ → List ℕ → Type 0)
           let current : IsCurrent terms.opening w.history t.prefix note = all_at (IsCurrent terms.opening w.history t.prefix) at_stage.3.checked behind t.notes note at_stage.3.notes own.notes in
           let quiet : changing_by_another p (w.meta note.addr.0) ≡ false = rw own.own at (not-true (changing_by_another t.own (w.meta note.addr.0)) tests.1) in
           let none : stamp_on w note.addr.0 ≡ 0 = not_written lawful may terms w safe p note.addr.0 within (no_stamp stage tt is) quiet in
-          let still = still_current lawful may terms w safe t.prefix clock note within none (same_number _ _ tests.0) current at_stage.3.low at_stage.3.high in
+          let still = still_current lawful may terms w safe t.prefix clock note within none (eqb-true _ _ tests.0) current at_stage.3.low at_stage.3.high in
           extends terms w p t stage tt (phase_is terms w p stage own is) (ending_is terms w p stage own is) sound cell left first clock behind at_stage.0 at_stage.1 at_stage.2
           (sampled_more w t clock note behind at_stage.3 still)
       go false moved = stopped_open terms w p t stage tt (phase_is terms w p stage own is) (ending_is terms w p stage own is) sound (Stale note.addr note.version (w.meta note.addr.0)) (
@@ -207,7 +198,7 @@ module _ (lawful : List ℕ → Type 0) (may : List ℕ → List ℕ → Type 0)
           let quiet : changing_by_another p (w.meta cell) ≡ false = rw own.own at (not-true (changing_by_another t.own (w.meta cell)) tests.1) in
           let none : stamp_on w cell ≡ 0 = not_written lawful may terms w safe p cell at_stage.0.in_range (no_stamp stage tt is) quiet in
           let current : IsCurrent terms.opening w.history t.prefix note =
-          noted_now lawful may terms w safe cell first.version value t.prefix note at_stage.0.in_range none (same_number _ _ tests.0) at_stage.2 own.prefix at_stage.3 refl refl refl in
+          noted_now lawful may terms w safe cell first.version value t.prefix note at_stage.0.in_range none (eqb-true _ _ tests.0) at_stage.2 own.prefix at_stage.3 refl refl refl in
           open_fits terms w p t (record t { notes = t.notes ++ note ∷ [] }) stage (Ready (Some value)) tt tt tt (phase_is terms w p stage own is) (ending_is terms w p stage own is)
           (record {
             serial = refl;

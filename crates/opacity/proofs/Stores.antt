@@ -1,6 +1,6 @@
 -- The store of a value keeps the world safe.
 use Rattle.std.proofs.Common.{◌≡◌, ◌≢◌, ℕ, suc, nat_eq, ◌-◌, ◌<◌, ◌&&◌, true, false, Bool, if◌then◌else◌, List, [], ◌∷◌, length, refl, sym, ap, ◌∙◌, arith, inl, inr, subst, slice_index}
-use Rattle.std.proofs.lemmas.Bool.{cases_eq}
+use Rattle.std.proofs.lemmas.Bool.{cases_eq, eq-eqb}
 use Rattle.std.proofs.lemmas.Bool.Decides.{nat_tests}
 use Rattle.meta_word.specs.declared.status.Phase.TheVariants.{Preparing}
 use Rattle.stm_model.specs.Accesses.{next_at}
@@ -138,15 +138,12 @@ module _ (lawful : List ℕ → Type 0) (may : List ℕ → List ℕ → Type 0)
       let room : cell < length (state terms.opening w.history (stamp_of t - 1)) = omega (arith, within, length-state terms.opening w.history (stamp_of t - 1)) in
       sym (ap (λ (h : List ℕ). slice_index h cell) heap ∙ over_found (state terms.opening w.history (stamp_of t - 1)) t.now.writes cell write.1 room next.found)
 
-  own_number : nat_eq p p ≡ true
-  own_number = grind (arith, nat_tests)
-
   cell_then : SafeCell terms after cell
   cell_then =
       let before : IsBeingWritten terms w cell (stamp_on w cell) = (safe.cells cell within).written (omega (arith, stamp_before, stamped.above)) in
       record {
         owner = λ q above. elim (cases_eq q p) [
-          | inl same ↦ rw (same, own_then, goes_here.held, next.there, mine) (sym own_number)
+          | inl same ↦ rw (same, own_then, goes_here.held, next.there, mine) (sym (eq-eqb p p refl))
           | inr other ↦ rw (others_then q other) ((safe.cells cell within).owner q above)
         ];
         changing = rw (mine, own_then, goes_here.marked, next.there) before.changing;

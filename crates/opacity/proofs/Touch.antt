@@ -1,6 +1,6 @@
 -- Steps that change one cell's metadata.
 use Rattle.std.proofs.Common.{◌≡◌, ◌≢◌, ℕ, nat_eq, ◌<◌, ◌≤◌, ◌⊎◌, true, false, List, length, refl, sym, ◌∙◌, arith, inl, inr, subst}
-use Rattle.std.proofs.lemmas.Bool.{cases_eq, cases_lt}
+use Rattle.std.proofs.lemmas.Bool.{cases_eq, cases_lt, eq-eqb, eqb-false, eqb-true}
 use Rattle.std.proofs.lemmas.Bool.Decides.{nat_tests}
 use Rattle.meta_word.specs.declared.meta.Meta.{Meta}
 use Rattle.stm_model.specs.After.{at}
@@ -36,21 +36,12 @@ module _ (lawful : List ℕ → Type 0) (may : List ℕ → List ℕ → Type 0)
   pub free_stamp : (cell : ℕ) → (w.meta cell).owner ≡ 0 → stamp_on w cell ≡ 0
   free_stamp cell none = rw none nobody_stamp
 
-  owner_number : (p owner : ℕ) → true ≡ nat_eq p owner → owner ≡ p
-  owner_number p owner test = grind (arith, nat_tests)
-
   -- who holds a cell is its owner
   pub owner_is : (p cell : ℕ) → 0 < p → cell < cells_in terms → holds (attempt_of w p) cell ≡ true → (w.meta cell).owner ≡ p
-  owner_is p cell above within held = owner_number p (w.meta cell).owner (sym held ∙ (safe.cells cell within).owner p above)
-
-  owner_other : (p owner : ℕ) → false ≡ nat_eq p owner → owner ≢ p
-  owner_other p owner test = grind (arith, nat_tests)
+  owner_is p cell above within held = sym (eqb-true p (w.meta cell).owner (sym ((safe.cells cell within).owner p above) ∙ held))
 
   pub owner_is_not : (p cell : ℕ) → 0 < p → cell < cells_in terms → holds (attempt_of w p) cell ≡ false → (w.meta cell).owner ≢ p
-  owner_is_not p cell above within free = owner_other p (w.meta cell).owner (sym free ∙ (safe.cells cell within).owner p above)
-
-  owner_test : (p : ℕ) → nat_eq p p ≡ true
-  owner_test p = grind (arith, nat_tests)
+  owner_is_not p cell above within free = λ same. eqb-false p (w.meta cell).owner (sym ((safe.cells cell within).owner p above) ∙ free) (sym same)
 
   -- an owner is a caller's number, or nobody's
   pub owner_low : (cell : ℕ) → cell < cells_in terms → (w.meta cell).owner ≤ terms.callers
@@ -58,7 +49,7 @@ module _ (lawful : List ℕ → Type 0) (may : List ℕ → List ℕ → Type 0)
     | inl past ↦
         let owner = (w.meta cell).owner in
         let free : holds (attempt_of w owner) cell ≡ false = ended_holds (attempt_of w owner) cell (safe.nobody owner (inr past)).stage in
-        let held : holds (attempt_of w owner) cell ≡ true = (safe.cells cell within).owner owner (omega arith) ∙ owner_test owner in
+        let held : holds (attempt_of w owner) cell ≡ true = (safe.cells cell within).owner owner (omega arith) ∙ eq-eqb owner owner refl in
         let never : true ≡ false = sym held ∙ free in
         cc
     | inr low ↦ low
@@ -155,14 +146,11 @@ module _ (lawful : List ℕ → Type 0) (may : List ℕ → List ℕ → Type 0)
     written = λ stamped. absurd (never stamped);
   }
     where
-      own_number : nat_eq p p ≡ true
-      own_number = grind (arith, nat_tests)
-
       apart : (q number : ℕ) → 0 < q → q ≢ p → (number ≡ p) ⊎ (number ≡ 0) → nat_eq q number ≡ nat_eq q p
       apart q number above other is = grind (arith, nat_tests)
 
       holder : (q : ℕ) → 0 < q → (q ≡ p) ⊎ (q ≢ p) → holds (attempt_of touched q) cell ≡ nat_eq q p
-      holder q above (inl is) = rw (is, own_then, held) (sym own_number)
+      holder q above (inl is) = rw (is, own_then, held) (sym (eq-eqb p p refl))
       holder q above (inr other) = rw (others_then q other) ((safe.cells cell within).owner q above ∙ apart q (w.meta cell).owner above other mine)
 
       never : 0 < stamp_on touched cell → ⊥

@@ -1,5 +1,6 @@
 -- What an access does to the words of a table is what it does to the world that they show.
 use Rattle.std.proofs.Common.{◌≡◌, ℕ, ◌+◌, ◌*◌, suc, ◌<◌, ◌^◌, ◌++◌, ◌∷◌, [], Bool, true, false, nat_eq, if◌then◌else◌, List, Some, get_or, set, refl, sym, ap, ◌∙◌, arith, ◌⊎◌, inl, inr}
+use Rattle.std.proofs.lemmas.Bool.{eq-eqb, eqb-true}
 use Rattle.std.proofs.lemmas.Bool.Decides.{nat_tests}
 use Rattle.std.proofs.lemmas.List.{set-get_or}
 use Rattle.meta_word.proofs.MetaLemmas.{meta_of-cleared, meta_of-meta_word, meta_of-or_changing, meta_of-or_pending, meta_word-meta_of}
@@ -16,7 +17,6 @@ use Rattle.opacity.specs.Words.{FieldsFit, IsOfTable, IsTable, effect, table_aft
 use Rattle.opacity.proofs.Acquires.{same_parts, same_pending, same_whole}
 use Rattle.opacity.proofs.Dooms.{status_same}
 use Rattle.opacity.proofs.Effects.{words_history}
-use Rattle.opacity.proofs.ReadSteps.{same_number}
 use Rattle.opacity.proofs.Tables.{set_clock, set_meta, set_status, set_value, status_in, status_own}
 
 pub found_word : (terms : Terms) (words : List ℕ) (history : List Entry) (view : ℕ → View) (act : Act) → IsOfTable terms (word_of (access_of act))
@@ -43,16 +43,13 @@ tests_agree true b there back = sym (there refl)
 tests_agree false true there back = back refl
 tests_agree false false there back = refl
 
-number_itself : (n m : ℕ) → n ≡ m → nat_eq n m ≡ true
-number_itself n m same = grind (arith, nat_tests)
-
 status_itself : (status : TxnStatus) → same_status status status ≡ true
 status_itself status = grind (arith, nat_tests)
 
 pub status_tests : (word : ℕ) (old : TxnStatus) → word < 2 ^ 64 → StatusFits old → same_status (status_of word) old ≡ nat_eq word (status_word old)
 status_tests word old below fits = tests_agree _ _
-    (λ same. number_itself word (status_word old) (sym (status_word-status_of word below) ∙ ap status_word (status_same (status_of word) old same)))
-    (λ same. rw (same_number word (status_word old) same, status_of-status_word old fits) (status_itself old))
+    (λ same. eq-eqb word (status_word old) (sym (status_word-status_of word below) ∙ ap status_word (status_same (status_of word) old same)))
+    (λ same. rw (eqb-true word (status_word old) same, status_of-status_word old fits) (status_itself old))
 
 meta_same : (meta other : Meta) → same_meta meta other ≡ true → meta ≡ other
 meta_same meta other same =
@@ -62,8 +59,8 @@ meta_same meta other same =
 
 pub meta_tests : (word : ℕ) (old : Meta) → word < 2 ^ 64 → MetaFits old → same_meta (meta_of word) old ≡ nat_eq word (meta_word old)
 meta_tests word old below fits = tests_agree _ _
-    (λ same. number_itself word (meta_word old) (sym (meta_word-meta_of word below) ∙ ap meta_word (meta_same (meta_of word) old same)))
-    (λ same. rw (same_number word (meta_word old) same, meta_of-meta_word old fits) (same_whole old))
+    (λ same. eq-eqb word (meta_word old) (sym (meta_word-meta_of word below) ∙ ap meta_word (meta_same (meta_of word) old same)))
+    (λ same. rw (eqb-true word (meta_word old) same, meta_of-meta_word old fits) (same_whole old))
 
 -- ---- the words after an access
 
