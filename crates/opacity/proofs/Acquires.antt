@@ -1,4 +1,4 @@
--- The accesses that take a cell keep the world safe.
+-- The accesses that acquire a cell keep the world safe.
 use Rattle.std.proofs.Common.{◌⊎◌, ◌≡◌, ◌≢◌, ℕ, zero, suc, nat_eq, ◌<◌, ◌&&◌, ◌||◌, not, true, false, Bool, Some, None, Option, if◌then◌else◌, List, [], ◌∷◌, refl, sym, ap, ◌∙◌, arith, inl, inr, subst}
 use Rattle.std.proofs.lemmas.Bool.{eqb-false}
 use Rattle.std.proofs.lemmas.Bool.Decides.{nat_tests}
@@ -95,13 +95,13 @@ put_here writes cell value none =
     last_in b cell = grind (arith, nat_tests)
 
 module _ (terms : Terms) (w : World) (p : ℕ) (t : Attempt) (here : Stage) (is_open : IsOpen here) (phase : PhaseAt here t.ending t.phase) (ending : EndingAt here t.ending) (sound : Sound terms w p t) where
-  pub to_taking : (there : Stage) → IsOpen there → IsPlain there → SafeStage terms w t there → Fits terms w p (at t here) (at t there)
-  to_taking there then_open plain stage = open_fits terms w p t t here there is_open then_open plain phase ending (goes_on_same terms w p t sound) stage
+  pub to_acquire : (there : Stage) → IsOpen there → IsPlain there → SafeStage terms w t there → Fits terms w p (at t here) (at t there)
+  to_acquire there then_open plain stage = open_fits terms w p t t here there is_open then_open plain phase ending (goes_on_same terms w p t sound) stage
 
-  pub taken_again : (cell value left : ℕ) (doomed : Bool) (first latest : Meta) → Shows t (write_refused t.own cell first latest) → IsToWrite terms t cell value → Fits terms w p (at t here) (acquire_again t cell value left doomed first latest)
+  pub acquired_again : (cell value left : ℕ) (doomed : Bool) (first latest : Meta) → Shows t (write_refused t.own cell first latest) → IsToWrite terms t cell value → Fits terms w p (at t here) (acquire_again t cell value left doomed first latest)
   unfolding SafeStage
-  taken_again cell value zero doomed first latest shown write = stopped_open terms w p t here is_open phase ending sound (write_refused t.own cell first latest) shown
-  taken_again cell value (suc left) doomed first latest shown write = to_taking (AcquireMeta cell value left doomed) tt tt write
+  acquired_again cell value zero doomed first latest shown write = stopped_open terms w p t here is_open phase ending sound (write_refused t.own cell first latest) shown
+  acquired_again cell value (suc left) doomed first latest shown write = to_acquire (AcquireMeta cell value left doomed) tt tt write
 
 module _ (lawful : List ℕ → Type 0) (may : List ℕ → List ℕ → Type 0) (terms : Terms) (w : World) (p : ℕ) (safe : Safe lawful may terms w) (caller : IsCaller terms p) where
   abbrev t : Attempt
@@ -142,12 +142,12 @@ module _ (lawful : List ℕ → Type 0) (may : List ℕ → List ℕ → Type 0)
       where
         again : owned_by_another t.own (w.meta cell) ≡ true → Fits terms w p (at t here) (acquire_again t cell value left doomed (w.meta cell) (w.meta cell))
         again another =
-            taken_again terms w p t here tt (phase_is terms w p here own is) (ending_is terms w p here own is) sound cell value left doomed (w.meta cell) (w.meta cell)
+            acquired_again terms w p t here tt (phase_is terms w p here own is) (ending_is terms w p here own is) sound cell value left doomed (w.meta cell) (w.meta cell)
             (conflict_shown t cell (w.meta cell) (w.meta cell) another) write
 
         dooming : (b : Bool) → owned_by_another t.own (w.meta cell) ≡ true
             → Fits terms w p (at t here) (if b then at t (OwnerStatus cell value left (w.meta cell)) else acquire_again t cell value left doomed (w.meta cell) (w.meta cell))
-        dooming true another = to_taking terms w p t here tt (phase_is terms w p here own is) (ending_is terms w p here own is) sound (OwnerStatus cell value left (w.meta cell)) tt tt
+        dooming true another = to_acquire terms w p t here tt (phase_is terms w p here own is) (ending_is terms w p here own is) sound (OwnerStatus cell value left (w.meta cell)) tt tt
             (write, record { another = another; found = found_now cell write.in_range })
         dooming false another = again another
 
@@ -155,7 +155,7 @@ module _ (lawful : List ℕ → Type 0) (may : List ℕ → List ℕ → Type 0)
             → Fits terms w p (at t here) (if b then at t (Acquire cell value left doomed (w.meta cell) (w.meta cell) false) else acquire_again t cell value left doomed (w.meta cell) (w.meta cell))
         free none true test =
             let nobody : (w.meta cell).owner ≡ 0 = nobodys here tt is cell value write none in
-            to_taking terms w p t here tt (phase_is terms w p here own is) (ending_is terms w p here own is) sound (Acquire cell value left doomed (w.meta cell) (w.meta cell) false) tt tt
+            to_acquire terms w p t here tt (phase_is terms w p here own is) (ending_is terms w p here own is) sound (Acquire cell value left doomed (w.meta cell) (w.meta cell) false) tt tt
             (write, found_now cell write.in_range, record { nobody = nobody; quiet = free_quiet lawful may terms w safe cell write.in_range nobody; alike = same_refl (w.meta cell); pending = λ never. cc })
         free none false test =
             let nobody : (w.meta cell).owner ≡ 0 = nobodys here tt is cell value write none in
@@ -177,9 +177,9 @@ module _ (lawful : List ℕ → Type 0) (may : List ℕ → List ℕ → Type 0)
         go true same = tries
         go false other = stopped_open terms w p t here tt (phase_is terms w p here own is) (ending_is terms w p here own is) sound (Stale note.addr note.version (w.meta cell)) (inl (λ same. eqb-false note.version (w.meta cell).version other (sym same)), names_found t.notes cell note (w.meta cell) is_noted)
 
-    pub keeps_acquire : Safe lawful may terms (stepped w p (AcquireMeta cell value left doomed))
+    pub keeps_acquire_meta : Safe lawful may terms (stepped w p (AcquireMeta cell value left doomed))
     unfolding next_at after_at words_after found seen_after since_at clock_after
-    keeps_acquire = safe_seen lawful may terms w p safe caller here is _ (by_note (note_of t.notes cell) refl) (knows_attempt lawful may terms w p safe caller _ refl refl refl)
+    keeps_acquire_meta = safe_seen lawful may terms w p safe caller here is _ (by_note (note_of t.notes cell) refl) (knows_attempt lawful may terms w p safe caller _ refl refl refl)
 
   -- ---- the exchange
 
@@ -254,7 +254,7 @@ module _ (lawful : List ℕ → Type 0) (may : List ℕ → List ℕ → Type 0)
 
     refuses : same_meta (w.meta cell) expected ≡ false → (again ≡ true) ⊎ (same_but_pending (w.meta cell) expected ≡ false) → Fits terms w p (at t owning_here) (acquire_again t cell value left doomed first (w.meta cell))
     refuses lost final =
-        taken_again terms w p t owning_here tt (phase_is terms w p owning_here own is) (ending_is terms w p owning_here own is) sound cell value left doomed first (w.meta cell)
+        acquired_again terms w p t owning_here tt (phase_is terms w p owning_here own is) (ending_is terms w p owning_here own is) sound cell value left doomed first (w.meta cell)
         (write_shown t cell first (w.meta cell) (lost_moved lost final)) at_stage.0
 
     lost_fits : same_meta (w.meta cell) expected ≡ false
@@ -269,7 +269,7 @@ module _ (lawful : List ℕ → Type 0) (may : List ℕ → List ℕ → Type 0)
         go false true last same =
             let alike : Alike (w.meta cell) expected = alike_parts (w.meta cell) expected same in
             let before : Alike expected first = alike_parts expected first at_stage.2.alike in
-            to_taking terms w p t owning_here tt (phase_is terms w p owning_here own is) (ending_is terms w p owning_here own is) sound (Acquire cell value left doomed first (w.meta cell) true) tt tt (
+            to_acquire terms w p t owning_here tt (phase_is terms w p owning_here own is) (ending_is terms w p owning_here own is) sound (Acquire cell value left doomed first (w.meta cell) true) tt tt (
               at_stage.0,
               found_now cell at_stage.0.in_range,
               record {
@@ -287,9 +287,9 @@ module _ (lawful : List ℕ → Type 0) (may : List ℕ → List ℕ → Type 0)
         }))
     lost_safe lost = safe_local lawful may terms w p safe caller owning_here is _ (lost_fits lost)
 
-    pub keeps_own : Safe lawful may terms (stepped w p (Acquire cell value left doomed first expected again))
+    pub keeps_acquire : Safe lawful may terms (stepped w p (Acquire cell value left doomed first expected again))
     unfolding next_at after_at words_after found seen_after since_at clock_after exchanged
-    keeps_own = go (same_meta (w.meta cell) expected) refl
+    keeps_acquire = go (same_meta (w.meta cell) expected) refl
       where
         go : (b : Bool) → same_meta (w.meta cell) expected ≡ b
             → Safe lawful may terms (with_view (if b then with_meta w cell (owned t.own expected) else w) p (record (w.view p) {

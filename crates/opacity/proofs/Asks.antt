@@ -21,16 +21,16 @@ use Rattle.stm_model.proofs.HeapLemmas.{writes_to-lookup}
 use Rattle.opacity.proofs.Cells.{AlikeAt}
 use Rattle.opacity.proofs.Ends.{gone_on, rolled_open, stopped_open}
 use Rattle.opacity.proofs.Fits.{Fits, IsOpen, goes_on_same, open_facts, open_fits, open_fits_with}
-use Rattle.opacity.proofs.Levels.{HoldsThese, and_not, given_holds, given_safe, gives_level, nest_outer, put_written}
+use Rattle.opacity.proofs.Levels.{HoldsThese, and_not, level_holds, level_safe, gives_level, nest_outer, put_written}
 use Rattle.opacity.proofs.Shown.{Shows, abandon_shown}
 use Rattle.opacity.proofs.Stands.{IsPlain, Follows, Sound, follows_at, sound_levels}
 use Rattle.opacity.proofs.Walks.{keys-append, keys-put_written, writes_to_keys}
 
--- What is given back goes on as the same attempt.
-pub given_follows : (t : Attempt) (due : List Due) (here : Stage) (kept behind : List Write) → HasBegun here → flies_at here ≡ true → t.ending ≡ None → Follows (at t here) (release_level_on (record t { due = due }) kept behind)
+-- An attempt that undoes a level goes on as the same one.
+pub level_follows : (t : Attempt) (due : List Due) (here : Stage) (kept behind : List Write) → HasBegun here → flies_at here ≡ true → t.ending ≡ None → Follows (at t here) (release_level_on (record t { due = due }) kept behind)
 unfolding HasBegun
-given_follows t due here kept [] begun flies none = follows_at t _ here refl refl refl refl flies begun tt
-given_follows t due here kept (write ∷ behind) begun flies none = follows_at t _ here refl refl refl refl flies begun tt
+level_follows t due here kept [] begun flies none = follows_at t _ here refl refl refl refl flies begun tt
+level_follows t due here kept (write ∷ behind) begun flies none = follows_at t _ here refl refl refl refl flies begun tt
 
 unwritten : (writes : List Write) (cell : ℕ) → lookup (nat_eq cell) writes ≡ None → writes_to writes cell ≡ false
 unwritten writes cell none = writes_to-lookup writes cell ∙ ap (λ found. is_some found) none
@@ -83,10 +83,10 @@ module _ (terms : Terms) (w : World) (p : ℕ) (t : Attempt) (here : Stage) (is_
       go true = with_saved (t.now ∷ t.saved) (Ready None) tt tt (([], sym (append-nil (keys_of t.now.writes))), sound.entry.words, sound.levels) tt
       go false = stopped_open terms w p t here is_open phase ending sound (TooDeep deepest) (refl, tt)
 
-  alike_given : (kept behind : List Write) (gives : GivesBack t kept behind) → gives.given ≡ [] → t.ending ≡ None → (cell : ℕ) → AlikeAt cell (release_level_on t kept behind) (at t here)
-  alike_given kept behind gives none undecided cell =
+  alike_level : (kept behind : List Write) (gives : GivesBack t kept behind) → gives.given ≡ [] → t.ending ≡ None → (cell : ℕ) → AlikeAt cell (release_level_on t kept behind) (at t here)
+  alike_level kept behind gives none undecided cell =
       let facts = open_facts here is_open in
-      let these : HoldsThese (release_level_on t kept behind) kept behind cell = given_holds t kept behind cell gives undecided in
+      let these : HoldsThese (release_level_on t kept behind) kept behind cell = level_holds t kept behind cell gives undecided in
       let whole : keys_of (kept ++ behind) ≡ keys_of t.now.writes = keys-append kept behind ∙ sym (whole_of gives.given none gives.whole) in
       record {
         held = rw (these.held, facts.held t.now.writes) (writes_to_keys (kept ++ behind) t.now.writes cell whole);
@@ -106,9 +106,9 @@ module _ (terms : Terms) (w : World) (p : ℕ) (t : Attempt) (here : Stage) (is_
       let gives : GivesBack t former.writes (drop (length former.writes) t.now.writes) = level.0 in
       let undecided = facts.ending_from t.ending ending in
       record {
-        alike = alike_given former.writes (drop (length former.writes) t.now.writes) gives level.1 undecided;
-        follows = given_follows t t.due here former.writes (drop (length former.writes) t.now.writes) facts.begun facts.flies undecided;
-        safe = given_safe terms w p t former.writes (drop (length former.writes) t.now.writes) sound gives (facts.phase_from t.ending t.phase phase) undecided;
+        alike = alike_level former.writes (drop (length former.writes) t.now.writes) gives level.1 undecided;
+        follows = level_follows t t.due here former.writes (drop (length former.writes) t.now.writes) facts.begun facts.flies undecided;
+        safe = level_safe terms w p t former.writes (drop (length former.writes) t.now.writes) sound gives (facts.phase_from t.ending t.phase phase) undecided;
       }
 
   going : IfSome (cause_at t.stage) (Shows t) → (ask : Ask) → MayAsk (cells_in terms) t ask → Fits terms w p (at t here) (asked_going t ask)

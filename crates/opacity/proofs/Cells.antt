@@ -1,7 +1,6 @@
 -- A cell of which nothing has changed, and how its owner holds it, stays safe.
-use Rattle.std.proofs.Common.{◌≡◌, ℕ, ◌-◌, ◌<◌, ◌≤◌, ◌⊎◌, ◌≢◌, Bool, true, false, nat_eq, if◌then◌else◌, length, refl, sym, ap, ◌∙◌, arith, inl, inr, slice_index}
+use Rattle.std.proofs.Common.{◌≡◌, ℕ, ◌-◌, ◌<◌, ◌≤◌, ◌⊎◌, ◌≢◌, Bool, true, false, if◌then◌else◌, length, refl, sym, ap, ◌∙◌, arith, inl, inr, slice_index}
 use Rattle.std.proofs.lemmas.Bool.{cases_eq, eq-eqb}
-use Rattle.std.proofs.lemmas.Bool.Decides.{nat_tests}
 use Rattle.meta_word.specs.declared.meta.Meta.{Meta}
 use Rattle.stm_model.specs.Attempt.{Attempt, holds, marks, stamp_of, unstored_at}
 use Rattle.stm_model.specs.Heap.{writes_to}

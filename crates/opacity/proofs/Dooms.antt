@@ -1,4 +1,4 @@
--- The accesses that look whether a cell's owner can be doomed, and doom it, keep the world safe.
+-- The accesses that load an owner's status, validate its cell and doom it keep the world safe.
 use Rattle.std.proofs.Common.{◌≡◌, ◌≢◌, ℕ, nat_eq, ◌&&◌, not, true, false, Bool, if◌then◌else◌, List, refl, sym, ap, ◌∙◌, arith, inl, inr}
 use Rattle.std.proofs.lemmas.Bool.{and_parts, cases_eq, eqb-true}
 use Rattle.std.proofs.lemmas.Bool.Decides.{nat_tests}
@@ -13,7 +13,7 @@ use Rattle.stm_model.specs.After.{after_at, at, is_active, owner_status_loaded, 
 use Rattle.stm_model.specs.Attempt.{Attempt, DoomOwner, OwnerMeta, OwnerStatus, Stage}
 use Rattle.stm_model.specs.Safe.{IsToWrite, Safe, SafeAttempt, SafeStage, WasTaken}
 use Rattle.stm_model.specs.World.{IsCaller, Terms, World, attempt_of, words_after, clock_after, found, replaced, seen_after, since_at, with_status, with_view}
-use Rattle.opacity.proofs.Acquires.{nobodys, found_now, taken_again, to_taking}
+use Rattle.opacity.proofs.Acquires.{nobodys, found_now, acquired_again, to_acquire}
 use Rattle.opacity.proofs.Fits.{Fits, ending_is, phase_is, safe_seen, stage_is}
 use Rattle.opacity.proofs.Places.{replaced_else, replaced_here}
 use Rattle.opacity.proofs.ReadSteps.{knows_attempt}
@@ -68,9 +68,9 @@ module _ (lawful : List ℕ → Type 0) (may : List ℕ → List ℕ → Type 0)
   sound : Sound terms w p t
   sound = sound_of terms w p t own
 
-  pub keeps_see_owner : (cell value left : ℕ) (first : Meta) → t.stage ≡ OwnerStatus cell value left first → Safe lawful may terms (stepped w p (OwnerStatus cell value left first))
+  pub keeps_owner_status : (cell value left : ℕ) (first : Meta) → t.stage ≡ OwnerStatus cell value left first → Safe lawful may terms (stepped w p (OwnerStatus cell value left first))
   unfolding next_at after_at words_after found seen_after since_at clock_after SafeStage owner_status_loaded
-  keeps_see_owner cell value left first is =
+  keeps_owner_status cell value left first is =
       safe_seen lawful may terms w p safe caller stage is _ (go (is_active (w.status first.owner).phase) refl) (knows_attempt lawful may terms w p safe caller _ refl refl refl)
     where
       stage : Stage
@@ -80,12 +80,12 @@ module _ (lawful : List ℕ → Type 0) (may : List ℕ → List ℕ → Type 0)
       at_stage = stage_is terms w p stage own is
 
       go : (b : Bool) → is_active (w.status first.owner).phase ≡ b → Fits terms w p (at t stage) (if b then at t (OwnerMeta cell value left first (w.status first.owner)) else acquire_again t cell value left true first first)
-      go true active = to_taking terms w p t stage tt (phase_is terms w p stage own is) (ending_is terms w p stage own is) sound (OwnerMeta cell value left first (w.status first.owner)) tt tt (at_stage.0, at_stage.1, active_is _ active)
-      go false other = taken_again terms w p t stage tt (phase_is terms w p stage own is) (ending_is terms w p stage own is) sound cell value left true first first (conflict_shown t cell first first at_stage.1.another) at_stage.0
+      go true active = to_acquire terms w p t stage tt (phase_is terms w p stage own is) (ending_is terms w p stage own is) sound (OwnerMeta cell value left first (w.status first.owner)) tt tt (at_stage.0, at_stage.1, active_is _ active)
+      go false other = acquired_again terms w p t stage tt (phase_is terms w p stage own is) (ending_is terms w p stage own is) sound cell value left true first first (conflict_shown t cell first first at_stage.1.another) at_stage.0
 
-  pub keeps_see_again : (cell value left : ℕ) (first : Meta) (status : TxnStatus) → t.stage ≡ OwnerMeta cell value left first status → Safe lawful may terms (stepped w p (OwnerMeta cell value left first status))
+  pub keeps_owner_meta : (cell value left : ℕ) (first : Meta) (status : TxnStatus) → t.stage ≡ OwnerMeta cell value left first status → Safe lawful may terms (stepped w p (OwnerMeta cell value left first status))
   unfolding next_at after_at words_after found seen_after since_at clock_after SafeStage owner_validated
-  keeps_see_again cell value left first status is =
+  keeps_owner_meta cell value left first status is =
       safe_seen lawful may terms w p safe caller stage is _ (go (nat_eq (w.meta cell).owner first.owner && not (w.meta cell).changing) refl) (knows_attempt lawful may terms w p safe caller _ refl refl refl)
     where
       stage : Stage
@@ -99,10 +99,10 @@ module _ (lawful : List ℕ → Type 0) (may : List ℕ → List ℕ → Type 0)
       go true same =
           let owner : (w.meta cell).owner ≡ first.owner = eqb-true _ _ (and_parts (nat_eq (w.meta cell).owner first.owner) (not (w.meta cell).changing) same).0 in
           let taken : WasTaken terms w t cell (w.meta cell) = record { another = rw owner at_stage.1.another; found = found_now lawful may terms w p safe caller cell at_stage.0.in_range } in
-          to_taking terms w p t stage tt (phase_is terms w p stage own is) (ending_is terms w p stage own is) sound (DoomOwner cell value left first (w.meta cell) status) tt tt (at_stage.0, at_stage.1, taken, owner, at_stage.2)
+          to_acquire terms w p t stage tt (phase_is terms w p stage own is) (ending_is terms w p stage own is) sound (DoomOwner cell value left first (w.meta cell) status) tt tt (at_stage.0, at_stage.1, taken, owner, at_stage.2)
       go false other =
           let moved = λ (none : owned_by_another t.own (w.meta cell) ≡ false). inr (inr (at_stage.1.another, nobodys lawful may terms w p safe caller stage tt is cell value at_stage.0 none)) in
-          taken_again terms w p t stage tt (phase_is terms w p stage own is) (ending_is terms w p stage own is) sound cell value left true first (w.meta cell) (write_shown t cell first (w.meta cell) moved) at_stage.0
+          acquired_again terms w p t stage tt (phase_is terms w p stage own is) (ending_is terms w p stage own is) sound cell value left true first (w.meta cell) (write_shown t cell first (w.meta cell) moved) at_stage.0
 
   -- ---- the exchange of the owner's word
 
@@ -115,7 +115,7 @@ module _ (lawful : List ℕ → Type 0) (may : List ℕ → List ℕ → Type 0)
     at_stage = stage_is terms w p here own is
 
     goes : Fits terms w p (at t here) (acquire_again t cell value left true first second)
-    goes = taken_again terms w p t here tt (phase_is terms w p here own is) (ending_is terms w p here own is) sound cell value left true first second (conflict_shown t cell first second at_stage.2.another) at_stage.0
+    goes = acquired_again terms w p t here tt (phase_is terms w p here own is) (ending_is terms w p here own is) sound cell value left true first second (conflict_shown t cell first second at_stage.2.another) at_stage.0
 
     other : first.owner ≢ p
     other same = another_number t.own first.owner at_stage.1.another (same ∙ sym own.own)

@@ -49,9 +49,9 @@ module _ (terms : Terms) (w : World) (p : ℕ) where
     stamp_here : stamp_of t ≡ 0
     stamp_here = rw from.ending refl
 
-    alike_back : (cell : ℕ) (write : Write) (behind : List Write) → t.now.writes ≡ write ∷ behind → AlikeAt cell (at u (RollBack write behind)) (at t here)
+    alike_roll_back : (cell : ℕ) (write : Write) (behind : List Write) → t.now.writes ≡ write ∷ behind → AlikeAt cell (at u (RollBack write behind)) (at t here)
     unfolding held_at unmarked_at unstored_at
-    alike_back cell write behind same = record {
+    alike_roll_back cell write behind same = record {
       held = rw (from.held, same) refl;
       marked = λ held. rw (from.held, from.unmarked, phase, same) refl;
       unstored = λ held. rw from.unstored refl;
@@ -93,7 +93,7 @@ module _ (terms : Terms) (w : World) (p : ℕ) where
   rolling t u here cause shown from sound serial phase prefix same (write ∷ behind) is =
       let back = record u { ending = Some (Rolled cause u.prefix) } in
       record {
-        alike = λ cell. alike_back t back here from same phase refl cell write behind (sym same ∙ is);
+        alike = λ cell. alike_roll_back t back here from same phase refl cell write behind (sym same ∙ is);
         follows = follows_end t back here (RollBack write behind) from tt serial phase prefix;
         safe = placed terms w p back sound (refl, to_shown back cause shown) (RollBack write behind) tt (rw phase from.phase) tt ([], is);
       }
@@ -138,6 +138,6 @@ module _ (terms : Terms) (w : World) (p : ℕ) where
         })
         tt
 
-    -- The next late body has its turn, or the end has come.
+    -- The next before-commit body has its turn, or the end has come.
     pub gone_on : Fits terms w p (at t here) (go_on t)
     gone_on = turned_to (drop t.turn t.now.laters)

@@ -41,10 +41,10 @@ module _ (n : ℕ) where
   reads_again t cell zero cause low = (low, none)
   reads_again t cell (suc left) cause low = (low, none)
 
-  takes_more : (t : Attempt) (cell value left : ℕ) (tried : Bool) (first latest : Meta) → t.prefix ≤ n → Within n (acquire_again t cell value left tried first latest)
+  acquires_again : (t : Attempt) (cell value left : ℕ) (tried : Bool) (first latest : Meta) → t.prefix ≤ n → Within n (acquire_again t cell value left tried first latest)
   unfolding clock_at
-  takes_more t cell value zero tried first latest low = (low, none)
-  takes_more t cell value (suc left) tried first latest low = (low, none)
+  acquires_again t cell value zero tried first latest low = (low, none)
+  acquires_again t cell value (suc left) tried first latest low = (low, none)
 
   rolls : (t : Attempt) (writes : List Write) → t.prefix ≤ n → Within n (roll_on t writes)
   unfolding clock_at
@@ -87,8 +87,8 @@ module _ (n : ℕ) where
   unfolding acquiring clock_at
   acquires t cell value left tried first low =
       choice (owned_by_another t.own first) _ _
-      (choice (dooms t.settings.policy && not tried) _ _ (low, none) (takes_more t cell value left tried first first low))
-      (choice (nat_eq first.owner 0) _ _ (low, none) (takes_more t cell value left tried first first low))
+      (choice (dooms t.settings.policy && not tried) _ _ (low, none) (acquires_again t cell value left tried first first low))
+      (choice (nat_eq first.owner 0) _ _ (low, none) (acquires_again t cell value left tried first first low))
 
   acquires_noted : (t : Attempt) (cell value left : ℕ) (tried : Bool) (note : Option Note) (first : Meta) → t.prefix ≤ n → Within n (meta_acquired t cell value left tried note first)
   unfolding clock_at
@@ -210,7 +210,7 @@ module _ (w : World) (view : View) (low : view.seen ≤ w.clock) (known : IsKnow
   unfolding exchanged clock_at
   exchanges cell value left tried first expected again =
       choice n (same_meta (w.meta cell) expected) _ _ (prefix, none n)
-      (choice n (not again && same_but_pending (w.meta cell) expected) _ _ (prefix, none n) (takes_more n t cell value left tried first (w.meta cell) prefix))
+      (choice n (not again && same_but_pending (w.meta cell) expected) _ _ (prefix, none n) (acquires_again n t cell value left tried first (w.meta cell) prefix))
 
   decides : (lost clock : ℕ) → Then (Decide lost clock) (next_at t (Decide lost clock))
   unfolding next_at found seen_after after_at decided clock_at
@@ -234,10 +234,10 @@ module _ (w : World) (view : View) (low : view.seen ≤ w.clock) (known : IsKnow
   access_within (AcquireMeta cell value left tried) is = acquires_noted n t cell value left tried (note_of t.notes cell) (w.meta cell) prefix
   access_within (Acquire cell value left tried first expected again) is = exchanges cell value left tried first expected again
   access_within (OwnerStatus cell value left first) is =
-      choice n (is_active (w.status first.owner).phase) _ _ (prefix, none n) (takes_more n t cell value left true first first prefix)
+      choice n (is_active (w.status first.owner).phase) _ _ (prefix, none n) (acquires_again n t cell value left true first first prefix)
   access_within (OwnerMeta cell value left first status) is =
-      choice n (nat_eq (w.meta cell).owner first.owner && not (w.meta cell).changing) _ _ (prefix, none n) (takes_more n t cell value left true first (w.meta cell) prefix)
-  access_within (DoomOwner cell value left first second status) is = takes_more n t cell value left true first second prefix
+      choice n (nat_eq (w.meta cell).owner first.owner && not (w.meta cell).changing) _ _ (prefix, none n) (acquires_again n t cell value left true first (w.meta cell) prefix)
+  access_within (DoomOwner cell value left first second status) is = acquires_again n t cell value left true first second prefix
   access_within (ReleaseLevel kept write behind) is = gives n (record t { due = ring_if (w.meta write.0).pending write.0 }) kept behind prefix
   access_within Prepare is =
       choice n (same_status (w.status t.own) (active t.serial)) _ _ (marks_on n (record t { phase = Preparing; due = run_all (preparing t.now.hooks) }) t.now.writes prefix)

@@ -84,12 +84,12 @@ module _ (terms : Terms) (w : World) (p : ℕ) where
       sound_with terms w p t former.writes others sound (distinct_front (keys_of former.writes) nest.0.0 (rw nest.0.1 at sound.entry.writes_apart)) nest.1
       (All-front (λ cell. cell < cells_in terms) (keys_of former.writes) nest.0.0 (rw nest.0.1 at sound.written_cells)) nest.2
 
-  pub given_safe : (t : Attempt) (kept behind : List Write) → Sound terms w p t → GivesBack t kept behind → t.phase ≡ Active → t.ending ≡ None → SafeAttempt terms w p (release_level_on t kept behind)
+  pub level_safe : (t : Attempt) (kept behind : List Write) → Sound terms w p t → GivesBack t kept behind → t.phase ≡ Active → t.ending ≡ None → SafeAttempt terms w p (release_level_on t kept behind)
   unfolding SafeStage PhaseAt EndingAt HasBegun EndsSo
-  given_safe t kept [] sound gives active none =
+  level_safe t kept [] sound gives active none =
       let u = record t { now = returned t.saved t.now; saved = outer t.saved; due = t.due ++ run_all (level_runs t.saved t.now) } in
       placed terms w p u (returned_sound t t.saved u.due sound sound.levels) (rw none tt) (Ready None) tt active none tt
-  given_safe t kept (write ∷ behind) sound gives active none =
+  level_safe t kept (write ∷ behind) sound gives active none =
       placed terms w p t sound (rw none tt) (ReleaseLevel kept write behind) tt active none gives
 
 -- An attempt holds these cells, unmarked, and is undecided.
@@ -106,9 +106,9 @@ and_not false = refl
 returned_writes : (saved : List Book) (now former : Book) (others : List Book) → saved ≡ former ∷ others → (returned saved now).writes ≡ former.writes
 returned_writes saved now former others is = rw is refl
 
-pub given_holds : (t : Attempt) (kept behind : List Write) (cell : ℕ) → GivesBack t kept behind → t.ending ≡ None → HoldsThese (release_level_on t kept behind) kept behind cell
+pub level_holds : (t : Attempt) (kept behind : List Write) (cell : ℕ) → GivesBack t kept behind → t.ending ≡ None → HoldsThese (release_level_on t kept behind) kept behind cell
 unfolding held_at unmarked_at unstored_at
-given_holds t kept [] cell gives none =
+level_holds t kept [] cell gives none =
     let back : (returned t.saved t.now).writes ≡ kept = returned_writes t.saved t.now gives.former gives.others gives.level ∙ sym gives.kept_writes in
     record {
       held = rw append-nil (ap (λ writes. writes_to writes cell) back);
@@ -116,4 +116,4 @@ given_holds t kept [] cell gives none =
       unstored = refl;
       stamp = rw none refl;
     }
-given_holds t kept (write ∷ behind) cell gives none = record { held = refl; unmarked = and_not (writes_to (kept ++ write ∷ behind) cell); unstored = refl; stamp = rw none refl }
+level_holds t kept (write ∷ behind) cell gives none = record { held = refl; unmarked = and_not (writes_to (kept ++ write ∷ behind) cell); unstored = refl; stamp = rw none refl }

@@ -13,7 +13,7 @@ pub mod LocalMoves
 pub mod Touch
 pub mod Stepping
 pub mod Releases
-pub mod GivesBack
+pub mod RollBacks
 pub mod Stores
 pub mod Samples
 pub mod LawLemmas
@@ -23,7 +23,7 @@ pub mod Acquires
 pub mod OwnWords
 pub mod Dooms
 pub mod StatusSteps
-pub mod Checks
+pub mod Commits
 pub mod Events
 pub mod Steps
 pub mod Runs
@@ -31,7 +31,7 @@ pub mod Effects
 pub mod AtRest
 pub mod Knowing
 pub mod KnownEvents
-pub mod Solo
+pub mod LoneMoves
 pub mod Lone
 pub mod LoneSteps
 pub mod LoneRuns

@@ -1,5 +1,5 @@
--- Each event of a caller keeps its attempt alone, where no other caller has one in flight.
-use Rattle.std.proofs.Common.{◌≡◌, ◌≢◌, ◌⊎◌, ℕ, nat_eq, nat_lt, ◌<◌, ◌≤◌, ◌&&◌, not, true, false, Bool, if◌then◌else◌, List, length, refl, sym, ap, ◌∙◌, arith, inl, inr}
+-- What an attempt finds where no other caller has one in flight: no cell is another's, and no note is stale.
+use Rattle.std.proofs.Common.{◌≡◌, ◌≢◌, ◌⊎◌, ℕ, nat_eq, ◌<◌, ◌&&◌, not, true, false, Bool, if◌then◌else◌, List, length, refl, sym, ap, ◌∙◌, arith, inl, inr}
 use Rattle.std.proofs.lemmas.Bool.{and_from, and_right, cases_eq, eq-eqb}
 use Rattle.std.proofs.lemmas.Bool.Decides.{nat_tests}
 use Rattle.meta_word.specs.Meta.{changing_by_another, owned_by_another, still_has}

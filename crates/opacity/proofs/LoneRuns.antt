@@ -20,7 +20,7 @@ use Rattle.opacity.proofs.Effects.{event_dooms, others_views}
 use Rattle.opacity.proofs.Fits.{ending_is, phase_is}
 use Rattle.opacity.proofs.LoneSteps.{Then, alone_step}
 use Rattle.opacity.proofs.Places.{attempt_else, attempt_here}
-use Rattle.opacity.proofs.Solo.{move_alone, moves_alone}
+use Rattle.opacity.proofs.LoneMoves.{move_alone, moves_alone}
 use Rattle.opacity.proofs.Steps.{event_safe}
 use Rattle.opacity.proofs.Stepping.{step_is, stepped_by}
 

@@ -22,7 +22,7 @@ use Rattle.opacity.proofs.Fits.{ending_is, stage_is}
 use Rattle.opacity.proofs.Lone.{chosen, not_another, not_changing, note_now, passed, still}
 use Rattle.opacity.proofs.ReadSteps.{no_stamp, version_length}
 use Rattle.opacity.proofs.Shown.{all_at, found_note}
-use Rattle.opacity.proofs.Solo.{goes_back, goes_check, goes_give_back, goes_mark, goes_plain, goes_release, goes_store}
+use Rattle.opacity.proofs.LoneMoves.{goes_roll_back, goes_validate, goes_release_level, goes_mark, goes_plain, goes_release, goes_store}
 use Rattle.opacity.proofs.StatusSteps.{doomed_word}
 
 module _ (lawful : List ℕ → Type 0) (may : List ℕ → List ℕ → Type 0) (terms : Terms) (w : World) (p : ℕ) (safe : Safe lawful may terms w) (caller : IsCaller terms p) (lone : IsLone w p)
@@ -50,9 +50,9 @@ module _ (lawful : List ℕ → Type 0) (may : List ℕ → List ℕ → Type 0)
   abbrev Here : Attempt → Type 0
   Here u = GoesAlone n w.meta u
 
-  first_look : (cell left : ℕ) → t.stage ≡ ReadMeta cell left → Here (meta_read t cell left (w.meta cell))
+  meta_reads : (cell left : ℕ) → t.stage ≡ ReadMeta cell left → Here (meta_read t cell left (w.meta cell))
   unfolding meta_read SafeStage cause_at
-  first_look cell left is =
+  meta_reads cell left is =
       let read : IsToRead terms t cell = stage_is terms w p (ReadMeta cell left) own is in
       let here : t.prefix ≡ n = solo_is (ReadMeta cell left) is in
       let low : (w.meta cell).version ≤ t.prefix = omega (arith, here, version_length terms w cell (safe.cells cell read.in_range)) in
@@ -60,9 +60,9 @@ module _ (lawful : List ℕ → Type 0) (may : List ℕ → List ℕ → Type 0)
       (passed Here (nat_lt t.prefix (w.meta cell).version) _ _ (le-ltb t.prefix (w.meta cell).version low)
       (goes_plain n w.meta t calm (ReadValue cell left (w.meta cell)) tt (here, refl)))
 
-  second_look : (cell left : ℕ) (first : Meta) (value : ℕ) → t.stage ≡ Validate cell left first value → Here (validated t cell left first value (w.meta cell))
+  validates : (cell left : ℕ) (first : Meta) (value : ℕ) → t.stage ≡ Validate cell left first value → Here (validated t cell left first value (w.meta cell))
   unfolding validated SafeStage cause_at
-  second_look cell left first value is =
+  validates cell left first value is =
       let at_stage = stage_is terms w p (Validate cell left first value) own is in
       let solo : (t.prefix ≡ n) × (first.version ≡ (w.meta cell).version) = solo_is (Validate cell left first value) is in
       chosen Here (still_has t.own first.version (w.meta cell)) _ _ (still lawful may terms w p safe caller lone cell first.version at_stage.0.in_range (sym solo.1))
@@ -98,7 +98,7 @@ module _ (lawful : List ℕ → Type 0) (may : List ℕ → List ℕ → Type 0)
       let within : note.addr.0 < cells_in terms = all_at (λ each. each.addr.0 < cells_in terms) sampled.checked behind t.notes note sampled.notes own.noted_cells in
       let current : IsCurrent terms.opening w.history t.prefix note = all_at (IsCurrent terms.opening w.history t.prefix) sampled.checked behind t.notes note sampled.notes own.notes in
       let version = note_now lawful may terms w p safe caller lone note within (rw none refl) solo.0 current in
-      chosen Here (still_has t.own note.version (w.meta note.addr.0)) _ _ (still lawful may terms w p safe caller lone note.addr.0 note.version within version) (goes_check n w.meta t calm solo.0 lost clock behind solo.1)
+      chosen Here (still_has t.own note.version (w.meta note.addr.0)) _ _ (still lawful may terms w p safe caller lone note.addr.0 note.version within version) (goes_validate n w.meta t calm solo.0 lost clock behind solo.1)
 
   prepares : t.stage ≡ Prepare → Then Prepare (next_at t Prepare)
   unfolding next_at words_after found after_at prepared
@@ -140,24 +140,24 @@ module _ (lawful : List ℕ → Type 0) (may : List ℕ → List ℕ → Type 0)
   unfolding next_at words_after found after_at cause_at SafeStage
   alone_step Announce is = record { stage = tt; undisturbed = record { refused = tt; ending = calm } }
   alone_step Begin is = record { stage = safe.clock; undisturbed = record { refused = tt; ending = calm } }
-  alone_step (ReadMeta cell left) is = first_look cell left is
+  alone_step (ReadMeta cell left) is = meta_reads cell left is
   alone_step (ExtendClock cell left first) is = absurd (solo_is (ExtendClock cell left first) is)
   alone_step (ExtendNote cell left first clock note behind) is = absurd (solo_is (ExtendNote cell left first clock note behind) is)
   alone_step (ReadValue cell left first) is = goes_plain n w.meta t calm (Validate cell left first (w.value cell)) tt (solo_is (ReadValue cell left first) is)
-  alone_step (Validate cell left first value) is = second_look cell left first value is
+  alone_step (Validate cell left first value) is = validates cell left first value is
   alone_step (AcquireMeta cell value left tried) is = by_note cell value left tried is (note_of t.notes cell) refl
   alone_step (Acquire cell value left tried first expected again) is = takes cell value left tried first expected again is
   alone_step (OwnerStatus cell value left first) is = absurd (solo_is (OwnerStatus cell value left first) is)
   alone_step (OwnerMeta cell value left first status) is = absurd (solo_is (OwnerMeta cell value left first status) is)
   alone_step (DoomOwner cell value left first second status) is = absurd (solo_is (DoomOwner cell value left first second status) is)
-  alone_step (ReleaseLevel kept write behind) is = goes_give_back n _ (record t { due = ring_if (w.meta write.0).pending write.0 }) calm (solo_is (ReleaseLevel kept write behind) is) kept behind
+  alone_step (ReleaseLevel kept write behind) is = goes_release_level n _ (record t { due = ring_if (w.meta write.0).pending write.0 }) calm (solo_is (ReleaseLevel kept write behind) is) kept behind
   alone_step Prepare is = prepares is
   alone_step (Mark write behind) is = goes_mark n _ t calm (solo_is (Mark write behind) is) behind
-  alone_step (CommitClock lost) is = goes_check n w.meta t calm (solo_is (CommitClock lost) is) lost w.clock t.notes safe.clock
+  alone_step (CommitClock lost) is = goes_validate n w.meta t calm (solo_is (CommitClock lost) is) lost w.clock t.notes safe.clock
   alone_step (CommitNote lost clock note behind) is = checks lost clock note behind is
   alone_step (Decide lost clock) is = decides lost clock is
   alone_step (StoreValues write behind) is = goes_store n w.meta t calm behind
   alone_step (Release write behind) is = goes_release n _ (record t { due = ring_if (w.meta write.0).pending write.0 }) calm behind
-  alone_step (RollBack write behind) is = goes_back n _ (record t { due = ring_if (w.meta write.0).pending write.0 }) calm behind
+  alone_step (RollBack write behind) is = goes_roll_back n _ (record t { due = ring_if (w.meta write.0).pending write.0 }) calm behind
   alone_step Close is = record { stage = tt; undisturbed = record { refused = tt; ending = calm } }
   alone_step stage is = tt

@@ -14,7 +14,7 @@ use Rattle.stm_model.specs.Safe.{EndingAt, EndsWith, GivesBack, Safe, SafeStage,
 use Rattle.stm_model.specs.World.{IsCaller, Terms, World, attempt_of, cells_in}
 use Rattle.stm_model.proofs.HistoryLemmas.{last_within}
 use Rattle.opacity.specs.Words.{BringsWords, FieldsFit, FitsTable, IsOfTable}
-use Rattle.opacity.proofs.GivesBack.{out_there}
+use Rattle.opacity.proofs.RollBacks.{out_there}
 use Rattle.opacity.proofs.Releases.{written_cell}
 use Rattle.opacity.proofs.Shown.{all_at}
 use Rattle.opacity.proofs.Stepping.{IsStamped, stamped_release}

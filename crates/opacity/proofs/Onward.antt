@@ -18,7 +18,7 @@ pub record Continues (terms : Terms) (w v : World) : Type 0 where
   pub last : (n cell : ℕ) → n ≤ length w.history → last v.history n cell ≡ last w.history n cell
   pub entry : (n : ℕ) → n < length w.history → entry_after v.history n ≡ entry_after w.history n
 
--- And no cell of the heap goes back, loses its pending bit at one version, or loses its decided writer at one version.
+-- And no cell of the heap falls to an earlier version, loses its pending bit at one version, or loses its decided writer at one version.
 pub record Onward (terms : Terms) (w v : World) : Type 0 where
   pub goes : Continues terms w v
   pub version : (cell : ℕ) → cell < cells_in terms → (w.meta cell).version ≤ (v.meta cell).version

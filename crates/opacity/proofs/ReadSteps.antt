@@ -1,7 +1,7 @@
 -- The accesses of a read keep the world safe.
-use Rattle.std.proofs.Common.{◌≡◌, ◌≢◌, ℕ, zero, suc, nat_eq, nat_lt, ◌-◌, ◌<◌, ◌≤◌, not, true, false, Bool, Some, None, if◌then◌else◌, IsFalse, List, [], ◌∷◌, ◌++◌, length, map, refl, sym, arith, inl, inr}
+use Rattle.std.proofs.Common.{◌≡◌, ℕ, zero, suc, nat_eq, nat_lt, ◌-◌, ◌<◌, ◌≤◌, not, true, false, Bool, Some, None, if◌then◌else◌, IsFalse, List, [], ◌∷◌, ◌++◌, length, map, refl, sym, arith, inl, inr}
 use Rattle.std.proofs.lemmas.Bool.{and_parts, cases_eq, eqb-true, ltb-false, ne_eqb, not-true}
-use Rattle.std.proofs.lemmas.Bool.Decides.{eqb_tells, nat_tests}
+use Rattle.std.proofs.lemmas.Bool.Decides.{eqb_tells}
 use Rattle.std.proofs.lemmas.List.{map_push}
 use Rattle.std.proofs.lemmas.List.Elements.{All-push}
 use Rattle.meta_word.specs.Meta.{changing_by_another, still_has}
@@ -54,9 +54,9 @@ module _ (terms : Terms) (w : World) (p : ℕ) (t : Attempt) (here : Stage) (is_
   again cell zero cause shown read = stopped_open terms w p t here is_open phase ending sound cause shown
   again cell (suc left) cause shown read = to (ReadMeta cell left) tt tt read
 
-  first_look : (cell left : ℕ) → IsToRead terms t cell → Fits terms w p (at t here) (meta_read t cell left (w.meta cell))
+  meta_reads : (cell left : ℕ) → IsToRead terms t cell → Fits terms w p (at t here) (meta_read t cell left (w.meta cell))
   unfolding meta_read SafeStage Evidence NamesNote
-  first_look cell left read = go (changing_by_another t.own (w.meta cell)) refl
+  meta_reads cell left read = go (changing_by_another t.own (w.meta cell)) refl
     where
       next : (b : Bool) → nat_lt t.prefix (w.meta cell).version ≡ b → IsFalse (changing_by_another t.own (w.meta cell))
           → Fits terms w p (at t here) (if b then at t (ExtendClock cell left (w.meta cell)) else at t (ReadValue cell left (w.meta cell)))
@@ -121,17 +121,17 @@ module _ (lawful : List ℕ → Type 0) (may : List ℕ → List ℕ → Type 0)
   pub no_stamp : (stage : Stage) → IsOpen stage → t.stage ≡ stage → stamp_of t ≡ 0
   no_stamp stage is_open is = let none = (open_facts stage is_open).ending_from t.ending (ending_is terms w p stage own is) in rw none refl
 
-  pub keeps_first_look : (cell left : ℕ) → t.stage ≡ ReadMeta cell left → Safe lawful may terms (stepped w p (ReadMeta cell left))
+  pub keeps_read_meta : (cell left : ℕ) → t.stage ≡ ReadMeta cell left → Safe lawful may terms (stepped w p (ReadMeta cell left))
   unfolding next_at after_at words_after found seen_after since_at clock_after SafeStage
-  keeps_first_look cell left is =
+  keeps_read_meta cell left is =
       let stage = ReadMeta cell left in
       safe_seen lawful may terms w p safe caller stage is _
-      (first_look terms w p t stage tt (phase_is terms w p stage own is) (ending_is terms w p stage own is) sound cell left (stage_is terms w p stage own is))
+      (meta_reads terms w p t stage tt (phase_is terms w p stage own is) (ending_is terms w p stage own is) sound cell left (stage_is terms w p stage own is))
       (knows_attempt _ refl refl refl)
 
-  pub keeps_renew : (cell left : ℕ) (first : Meta) → t.stage ≡ ExtendClock cell left first → Safe lawful may terms (stepped w p (ExtendClock cell left first))
+  pub keeps_extend_clock : (cell left : ℕ) (first : Meta) → t.stage ≡ ExtendClock cell left first → Safe lawful may terms (stepped w p (ExtendClock cell left first))
   unfolding next_at after_at words_after found seen_after since_at clock_after SafeStage
-  keeps_renew cell left first is =
+  keeps_extend_clock cell left first is =
       let stage = ExtendClock cell left first in
       let at_stage : IsToRead terms t cell × WasSeen w t cell first = stage_is terms w p stage own is in
       let low : first.version ≤ w.clock = omega (arith, at_stage.1.behind, version_length terms w cell (safe.cells cell at_stage.0.in_range), safe.clock) in
@@ -140,9 +140,9 @@ module _ (lawful : List ℕ → Type 0) (may : List ℕ → List ℕ → Type 0)
       (sampled_start w t w.clock (omega (arith, own.prefix, safe.clock)) (omega (arith, safe.clock))))
       (knows_clock _ refl refl refl)
 
-  pub keeps_extend : (cell left : ℕ) (first : Meta) (clock : ℕ) (note : Note) (behind : List Note) → t.stage ≡ ExtendNote cell left first clock note behind → Safe lawful may terms (stepped w p (ExtendNote cell left first clock note behind))
+  pub keeps_extend_note : (cell left : ℕ) (first : Meta) (clock : ℕ) (note : Note) (behind : List Note) → t.stage ≡ ExtendNote cell left first clock note behind → Safe lawful may terms (stepped w p (ExtendNote cell left first clock note behind))
   unfolding next_at after_at words_after found seen_after since_at clock_after SafeStage extended Evidence NamesNote
-  keeps_extend cell left first clock note behind is =
+  keeps_extend_note cell left first clock note behind is =
       safe_seen lawful may terms w p safe caller stage is _ (go (still_has t.own note.version (w.meta note.addr.0)) refl) (knows_attempt _ refl refl refl)
     where
       stage : Stage
@@ -167,9 +167,9 @@ module _ (lawful : List ℕ → Type 0) (may : List ℕ → List ℕ → Type 0)
         names_checked at_stage.3.checked behind t.notes note (w.meta note.addr.0) at_stage.3.notes,
       )
 
-  pub keeps_fetch : (cell left : ℕ) (first : Meta) → t.stage ≡ ReadValue cell left first → Safe lawful may terms (stepped w p (ReadValue cell left first))
+  pub keeps_read_value : (cell left : ℕ) (first : Meta) → t.stage ≡ ReadValue cell left first → Safe lawful may terms (stepped w p (ReadValue cell left first))
   unfolding next_at after_at words_after found seen_after since_at clock_after SafeStage
-  keeps_fetch cell left first is =
+  keeps_read_value cell left first is =
       let stage = ReadValue cell left first in
       let at_stage : IsToRead terms t cell × WasSeen w t cell first × (first.version ≤ t.prefix) = stage_is terms w p stage own is in
       safe_seen lawful may terms w p safe caller stage is _
@@ -177,9 +177,9 @@ module _ (lawful : List ℕ → Type 0) (may : List ℕ → List ℕ → Type 0)
       (at_stage.0, at_stage.1, at_stage.2, fetched_now lawful may terms w safe cell first.version at_stage.0.in_range at_stage.1.behind))
       (knows_attempt _ refl refl refl)
 
-  pub keeps_second_look : (cell left : ℕ) (first : Meta) (value : ℕ) → t.stage ≡ Validate cell left first value → Safe lawful may terms (stepped w p (Validate cell left first value))
+  pub keeps_validate : (cell left : ℕ) (first : Meta) (value : ℕ) → t.stage ≡ Validate cell left first value → Safe lawful may terms (stepped w p (Validate cell left first value))
   unfolding next_at after_at words_after found seen_after since_at clock_after SafeStage validated Evidence NamesNote
-  keeps_second_look cell left first value is =
+  keeps_validate cell left first value is =
       safe_seen lawful may terms w p safe caller stage is _ (go (still_has t.own first.version (w.meta cell)) refl) (knows_attempt _ refl refl refl)
     where
       stage : Stage

@@ -1,4 +1,4 @@
--- Whole runs, and what a safe world says of its attempts.
+-- Whole runs and lists of local moves, and what a safe world says of its attempts.
 use Rattle.std.proofs.Common.{◌≡◌, ℕ, List, [], ◌∷◌, sym, ap, ◌∙◌, subst, inl, inr}
 use Rattle.std.proofs.lemmas.Bool.{cases_eq}
 use Rattle.stm_model.specs.Moves.{May, MayAll, Move, moved, moved_on}

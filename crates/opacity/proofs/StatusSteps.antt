@@ -19,7 +19,7 @@ use Rattle.stm_model.specs.World.{IsCaller, Terms, View, World, attempt_of, word
 use Rattle.opacity.proofs.Cells.{AlikeAt}
 use Rattle.opacity.proofs.Ends.{rolled_open}
 use Rattle.opacity.proofs.Fits.{ending_is, phase_is, safe_local, stage_is}
-use Rattle.opacity.proofs.GivesBack.{mark_safe}
+use Rattle.opacity.proofs.RollBacks.{mark_safe}
 use Rattle.opacity.proofs.Places.{replaced_else, replaced_here}
 use Rattle.opacity.proofs.Stands.{kept_flying, Sound, placed, serial_to, sound_at, sound_of, stands_safe, told_same}
 use Rattle.opacity.proofs.Stepping.{stepped}

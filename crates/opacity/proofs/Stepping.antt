@@ -11,7 +11,7 @@ use Rattle.stm_model.specs.History.{entry_after}
 use Rattle.stm_model.specs.Safe.{ClosingPhase, PhaseAt, EndingAt, EndsSo}
 use Rattle.stm_model.specs.World.{World, attempt_of, words_after, clock_after, entry_of, found, seen_after, since_at, step_by, with_view}
 
--- the world after this access, made by an attempt that stands so
+-- the world after this access, made by an attempt at this stage
 abbrev pub stepped_by : World → ℕ → Stage → Option Act → World
 stepped_by w p stage None = w
 stepped_by w p stage (Some this) = with_view (words_after w (attempt_of w p) this) p (record (w.view p) {
@@ -60,12 +60,12 @@ unfolding PhaseAt ClosingPhase
 release_phase write behind ending phase at prepares = rw (committed_by write behind ending at).1 prepares
 
 -- Who rolls back has a cause.
-pub back_close : (write : Write) (behind : List Write) (ending : Option Ending) → EndingAt (RollBack write behind) ending → EndingAt Close ending
+pub roll_back_close : (write : Write) (behind : List Write) (ending : Option Ending) → EndingAt (RollBack write behind) ending → EndingAt Close ending
 unfolding EndingAt
-back_close write behind (Some (Rolled cause prefix)) at = tt
-back_close write behind ending at = absurd at
+roll_back_close write behind (Some (Rolled cause prefix)) at = tt
+roll_back_close write behind ending at = absurd at
 
-pub back_stamp : (write : Write) (behind : List Write) (ending : Option Ending) → EndingAt (RollBack write behind) ending → stamp_in ending ≡ 0
+pub roll_back_stamp : (write : Write) (behind : List Write) (ending : Option Ending) → EndingAt (RollBack write behind) ending → stamp_in ending ≡ 0
 unfolding EndingAt
-back_stamp write behind (Some (Committed stamp)) at = absurd at
-back_stamp write behind ending at = refl
+roll_back_stamp write behind (Some (Committed stamp)) at = absurd at
+roll_back_stamp write behind ending at = refl

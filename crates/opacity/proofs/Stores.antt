@@ -1,7 +1,6 @@
 -- The store of a value keeps the world safe.
-use Rattle.std.proofs.Common.{◌≡◌, ◌≢◌, ℕ, suc, nat_eq, ◌-◌, ◌<◌, ◌&&◌, true, false, Bool, if◌then◌else◌, List, [], ◌∷◌, length, refl, sym, ap, ◌∙◌, arith, inl, inr, subst, slice_index}
+use Rattle.std.proofs.Common.{◌≡◌, ◌≢◌, ℕ, suc, ◌-◌, ◌<◌, ◌&&◌, true, false, Bool, if◌then◌else◌, List, [], ◌∷◌, length, refl, sym, ap, ◌∙◌, arith, inl, inr, subst, slice_index}
 use Rattle.std.proofs.lemmas.Bool.{cases_eq, eq-eqb}
-use Rattle.std.proofs.lemmas.Bool.Decides.{nat_tests}
 use Rattle.meta_word.specs.declared.status.Phase.TheVariants.{Preparing}
 use Rattle.stm_model.specs.Accesses.{next_at}
 use Rattle.stm_model.specs.After.{after_at, at, release_on, store_on}
@@ -176,9 +175,9 @@ module _ (lawful : List ℕ → Type 0) (may : List ℕ → List ℕ → Type 0)
       (record { seen = omega arith; high = view.seen; since = refl; clock = view.clock }) goes
       (store_safe terms w p t write behind behind (sound_of terms w p t own) prepares ending own.ends_so (ends_more t.now.writes write behind ends))
 
-  pub keeps_store : Safe lawful may terms (stepped w p (StoreValues write behind))
+  pub keeps_store_values : Safe lawful may terms (stepped w p (StoreValues write behind))
   unfolding next_at after_at words_after found seen_after since_at clock_after
-  keeps_store =
+  keeps_store_values =
       safe_moved lawful may terms w w.meta (replaced w.value cell write.1) w.status p x safe caller
       (λ b inside. elim (cases_eq b cell) [
         | inl same ↦ inr (rw same (moves, cell_then))

@@ -103,7 +103,7 @@ module _ (lawful : List ℕ → Type 0) (may : List ℕ → List ℕ → Type 0)
       (λ q other. inl refl)
       (own_safe stage is follows attempt)
 
-  -- The cell is given back or released: nobody owns it, and it stands as the history left it.
+  -- The cell is rolled back or released: nobody owns it, and it stands as the history left it.
   pub freed : meta.owner ≡ 0 → meta.changing ≡ false → holds u cell ≡ false → (w.meta cell).owner ≡ p → meta.version ≡ last w.history (length w.history) cell
       → w.value cell ≡ value_then terms w (length w.history) cell → SafeCell terms touched cell
   freed none quiet free mine version value = record {

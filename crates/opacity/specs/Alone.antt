@@ -55,7 +55,7 @@ AloneAt n meta prefix Close = Unit {0}
 AloneAt n meta prefix Ended = Unit {0}
 AloneAt n meta prefix stage = prefix ≡ n
 
--- The attempt stands so, and is undisturbed.
+-- The attempt stands at such a stage, and is undisturbed.
 pub record GoesAlone (n : ℕ) (meta : ℕ → Meta) (t : Attempt) : Type 0 where
   pub stage : AloneAt n meta t.prefix t.stage
   pub undisturbed : IsUndisturbed t

@@ -1,5 +1,5 @@
 -- The world as plain data.
-use Rattle.std.specs.Prelude.{◌≡◌, ◌≢◌, ◌⊎◌, ℕ, ◌+◌, ◌*◌, ◌-◌, ◌<◌, ◌≤◌, false, IfSome, IfNone, Some, List, [], ◌∷◌, ◌++◌, length, map, slice_index, slice_index_or, Option, vec_capacity}
+use Rattle.std.specs.Prelude.{◌≡◌, ◌≢◌, ◌⊎◌, ℕ, ◌+◌, ◌*◌, ◌-◌, ◌<◌, ◌≤◌, false, IfSome, IfNone, Some, List, [], ◌∷◌, ◌++◌, length, map, slice_index, slice_index_or, Option}
 use Rattle.meta_word.specs.Status.{status_of}
 use Rattle.stm_model.specs.Accesses.{Act, ExchangeClock, LoadClock, SetPending, access_of, next, next_access, word_of}
 use Rattle.stm_model.specs.After.{after_word}
@@ -72,12 +72,6 @@ history_of kept = map entry_in kept
 -- the entry of a caller whose attempt has these notes and writes: its number is the one in the caller's status word
 abbrev pub entry_by : List ℕ → ℕ → (reads writes : List Note) → Entry
 entry_by words caller reads writes = record { caller = caller; serial = (status_of (slice_index words caller)).serial; reads = reads; writes = writes_in writes }
-
--- Beside so many entries there is room for one more, with so many notes and writes.
-pub record HasRoom (spare : Committed) (entries room reads writes : ℕ) : Type 0 where
-  pub notes : reads ≤ vec_capacity spare.reads
-  pub written : writes ≤ vec_capacity spare.writes
-  pub entry : entries < room
 
 -- What an attempt's access makes of a table that shows a safe world: it goes to a word of the table, the caller's view is the one after the step and no other changes, the attempt is led by the word that is found there, the caller has seen no less of the history, and the table afterwards shows the world after the step, which is safe. The history stays, or the access has won the exchange of the clock and the attempt's entry comes last.
 pub record IsTableStep (lawful : List ℕ → Type 0) (may : List ℕ → List ℕ → Type 0) (terms : Terms) (words : List ℕ) (history : List Entry) (view : ℕ → View) (p : ℕ) (act : Act) (after : World) : Type 0 where

@@ -1,5 +1,5 @@
 -- The world as it is kept, before a call and after it.
-use Rattle.std.specs.Prelude.{◌≡◌, ℕ, ◌+◌, List, [], ◌∷◌, ◌++◌, slice_set}
+use Rattle.std.specs.Prelude.{◌≡◌, ℕ, ◌+◌, ◌<◌, ◌≤◌, List, [], ◌∷◌, ◌++◌, length, slice_set, vec_capacity}
 use Rattle.stm_model.specs.World.{Terms}
 use Rattle.stm_model.specs.declared.law.Law.{Ghosts}
 use Rattle.stm_model.specs.declared.note.Note.{Note}
@@ -40,3 +40,9 @@ pub record KeepsTable {L : Type 0} {bound : Ghosts L} (old new : World L bound) 
 pub record Commits {L : Type 0} {bound : Ghosts L} (old new : World L bound) (caller clock : ℕ) (reads writes : List Note) : Type 0 where
   pub words : new.words.items ≡ slice_set old.words.items 0 (clock + 1)
   pub history : history_of new.history.items ≡ history_of old.history.items ++ entry_by old.words.items caller reads writes ∷ []
+
+-- There is room for one more entry, with so many notes and writes.
+pub record HasRoom {L : Type 0} {bound : Ghosts L} (world : World L bound) (reads writes : ℕ) : Type 0 where
+  pub notes : reads ≤ vec_capacity world.spare.reads
+  pub written : writes ≤ vec_capacity world.spare.writes
+  pub entry : length world.history.items < vec_capacity world.history

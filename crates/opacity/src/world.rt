@@ -1,7 +1,7 @@
 //! The world as plain data.
 ghost use Rattle.std.specs.Prelude.{◌≡◌, ◌+◌, ◌*◌, ◌<◌, ◌^◌, ◌≤◌, ◌++◌, ◌∷◌, ◌≢◌, ℕ, List, [], IfOk, OnErr, OnOk, Some, length, slice_index, slice_set, vec_capacity, IsOk};
 ghost use Rattle.meta_word.specs.declared.meta.TheConstants.{MAX_OWNER, MAX_VERSION};
-ghost use Rattle.opacity.specs.Plain.{AreAttempts, HasRoom, MayDecide, IsUndecided, OpensTo, ShowsAccess, ShowsSafe, entry_by, entry_in, history_of, terms_of, writes_in};
+ghost use Rattle.opacity.specs.Plain.{AreAttempts, MayDecide, IsUndecided, OpensTo, ShowsAccess, ShowsSafe, entry_by, entry_in, history_of, terms_of, writes_in};
 ghost use Rattle.opacity.specs.Words.{BringsWords, IsOfTable, effect, table_after, word_found};
 ghost use Rattle.stm_model.specs.Accesses.{LoadClock, SetPending, ExchangeClock, access_of, next, next_access, word_of};
 ghost use Rattle.stm_model.specs.Attempt.{Ended};
@@ -116,7 +116,7 @@ fn written<W: Notes>(room: Vec<(u32, u64)>, writes: &W) -> Result<Vec<(u32, u64)
 }
 
 impl<L: Law + Drop> World<L> {
-    ghost use Rattle.opacity.specs.World.{Commits, IsFresh, KeepsHistory, KeepsTable, KeepsTerms, kept_terms};
+    ghost use Rattle.opacity.specs.World.{Commits, HasRoom, IsFresh, KeepsHistory, KeepsTable, KeepsTerms, kept_terms};
 
     /// The world as it opens over a heap that may be committed.
     pub fn new(
@@ -182,7 +182,7 @@ impl<L: Law + Drop> World<L> {
     fn access(&mut self, access: Access) -> u64
         requires { IsOfTable (kept_terms self.old) (word_of access) }
         ensures brings { BringsWords access }
-        ensures found { result ≡ slice_index self.old.words.items (place_of self.old.callers (word_of access)) }
+        ensures found { result ≡ word_found (kept_terms self.old) self.old.words.items access }
         ensures words { self.new.words.items ≡ table_after (kept_terms self.old) self.old.words.items access }
         ensures keeps { KeepsHistory self.old self.new }
     {
@@ -234,7 +234,7 @@ impl<L: Law + Drop> World<L> {
 
     /// Takes memory for the next exchange of the clock, with at most so many notes and writes.
     pub fn reserve(&mut self, reads: usize, writes: usize) -> Result<(), Memory>
-        ensures room { OnOk result (HasRoom self.new.spare (length self.new.history.items) (vec_capacity self.new.history) reads writes) }
+        ensures room { OnOk result (HasRoom self.new reads writes) }
         ensures table { KeepsTable self.old self.new }
         ensures keeps { KeepsTerms self.old self.new }
     {
@@ -262,7 +262,7 @@ impl<L: Law + Drop> World<L> {
         requires old { old < MAX_VERSION }
         ensures found { IfOk result (λ clock. clock ≡ slice_index self.old.words.items 0) }
         ensures memory { OnErr result (KeepsTable self.old self.new) }
-        ensures succeeds { HasRoom self.old.spare (length self.old.history.items) (vec_capacity self.old.history) (length (N.notes reads.now)) (length (W.notes writes.now)) → IsOk result }
+        ensures succeeds { HasRoom self.old (length (N.notes reads.now)) (length (W.notes writes.now)) → IsOk result }
         ensures lost { slice_index self.old.words.items 0 ≢ old → KeepsTable self.old self.new }
         ensures won { OnOk result (slice_index self.old.words.items 0 ≡ old → Commits self.old self.new caller old (N.notes reads.now) (W.notes writes.now)) }
         ensures keeps { KeepsTerms self.old self.new }

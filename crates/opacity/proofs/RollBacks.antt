@@ -1,4 +1,4 @@
--- The accesses that give a cell back, in a rollback or of a level, and the one that marks it, keep the world safe.
+-- The accesses that roll a cell back, release one of a level, and mark one, keep the world safe.
 use Rattle.std.proofs.Common.{length-append, length, ◌≡◌, ◌≢◌, ℕ, nat_eq, ◌<◌, ◌||◌, true, false, Bool, None, if◌then◌else◌, List, [], ◌∷◌, ◌++◌, refl, sym, ap, ◌∙◌, arith, inl, append_assoc}
 use Rattle.std.specs.List.{IsDistinct}
 use Rattle.std.specs.Map.{keys_of}
@@ -11,14 +11,14 @@ use Rattle.stm_model.specs.Attempt.{Attempt, Close, Due, ReleaseLevel, Mark, Rol
 use Rattle.stm_model.specs.Heap.{writes_to}
 use Rattle.stm_model.specs.Safe.{EndingAt, EndsSo, EndsWith, GivesBack, HasBegun, HoldsNewest, PhaseAt, Safe, SafeAttempt, SafeStage, stamp_on}
 use Rattle.stm_model.specs.World.{IsCaller, Terms, World, attempt_of, cells_in, words_after, clock_after, found, seen_after, since_at}
-use Rattle.opacity.proofs.Asks.{given_follows}
+use Rattle.opacity.proofs.Asks.{level_follows}
 use Rattle.opacity.proofs.Cells.{AlikeAt}
 use Rattle.opacity.proofs.Ends.{clash}
 use Rattle.opacity.proofs.Fits.{ending_is, phase_is, stage_is}
-use Rattle.opacity.proofs.Levels.{HoldsThese, and_not, given_holds, given_safe}
+use Rattle.opacity.proofs.Levels.{HoldsThese, and_not, level_holds, level_safe}
 use Rattle.opacity.proofs.Releases.{due_same, held_here, written_cell}
 use Rattle.opacity.proofs.Stands.{Follows, Sound, follows_at, placed, sound_of, told_same}
-use Rattle.opacity.proofs.Stepping.{back_close, back_stamp, stepped}
+use Rattle.opacity.proofs.Stepping.{roll_back_close, roll_back_stamp, stepped}
 use Rattle.opacity.proofs.Touch.{freed, kept, owner_is, safe_touched}
 use Rattle.opacity.proofs.Walks.{IsNext, among, among-append, ends_more, keys-append, next_of, none_before, none_behind, writes_to_else, writes_to_here}
 
@@ -29,37 +29,37 @@ unmarked_else : (marked : Bool) (write : Write) (behind : List Write) (cell : �
 unmarked_else true write behind cell other = refl
 unmarked_else false write behind cell other = sym (writes_to_else write behind cell other)
 
-back_alike : (t : Attempt) (due : List Due) (write : Write) (behind : List Write) (cell : ℕ) → cell ≢ write.0 → AlikeAt cell (roll_on (record t { due = due }) behind) (at t (RollBack write behind))
+roll_back_alike : (t : Attempt) (due : List Due) (write : Write) (behind : List Write) (cell : ℕ) → cell ≢ write.0 → AlikeAt cell (roll_on (record t { due = due }) behind) (at t (RollBack write behind))
 unfolding held_at unmarked_at unstored_at
-back_alike t due write [] cell other =
+roll_back_alike t due write [] cell other =
     let free : writes_to (write ∷ []) cell ≡ false = writes_to_else write [] cell other in
     record { held = sym free; marked = λ held. absurd (clash _ held free); unstored = λ held. refl; stamp = λ held. refl }
-back_alike t due write (next ∷ behind) cell other =
+roll_back_alike t due write (next ∷ behind) cell other =
     let same = writes_to_else write (next ∷ behind) cell other in
     record { held = sym same; marked = λ held. rw (same, unmarked_else (has_prepared t.phase) write (next ∷ behind) cell other) refl; unstored = λ held. refl; stamp = λ held. refl }
 
-back_follows : (t : Attempt) (due : List Due) (write : Write) (behind : List Write) → Follows (at t (RollBack write behind)) (roll_on (record t { due = due }) behind)
+roll_back_follows : (t : Attempt) (due : List Due) (write : Write) (behind : List Write) → Follows (at t (RollBack write behind)) (roll_on (record t { due = due }) behind)
 unfolding flies_at HasBegun
-back_follows t due write [] = follows_at t _ (RollBack write []) refl refl refl refl refl tt tt
-back_follows t due write (next ∷ behind) = follows_at t _ (RollBack write (next ∷ behind)) refl refl refl refl refl tt tt
+roll_back_follows t due write [] = follows_at t _ (RollBack write []) refl refl refl refl refl tt tt
+roll_back_follows t due write (next ∷ behind) = follows_at t _ (RollBack write (next ∷ behind)) refl refl refl refl refl tt tt
 
-back_free : (t : Attempt) (cell : ℕ) (behind : List Write) → writes_to behind cell ≡ false → holds (roll_on t behind) cell ≡ false
+roll_back_free : (t : Attempt) (cell : ℕ) (behind : List Write) → writes_to behind cell ≡ false → holds (roll_on t behind) cell ≡ false
 unfolding held_at
-back_free t cell [] none = refl
-back_free t cell (next ∷ behind) none = none
+roll_back_free t cell [] none = refl
+roll_back_free t cell (next ∷ behind) none = none
 
-back_safe : (terms : Terms) (w : World) (p : ℕ) (t : Attempt) (due : List Due) (write : Write) (behind : List Write) → Sound terms w p t → PhaseAt (RollBack write behind) t.ending t.phase → EndingAt (RollBack write behind) t.ending → EndsSo w t t.ending
+roll_back_safe : (terms : Terms) (w : World) (p : ℕ) (t : Attempt) (due : List Due) (write : Write) (behind : List Write) → Sound terms w p t → PhaseAt (RollBack write behind) t.ending t.phase → EndingAt (RollBack write behind) t.ending → EndsSo w t t.ending
     → EndsWith t.now.writes behind → SafeAttempt terms w p (roll_on (record t { due = due }) behind)
 unfolding SafeStage PhaseAt EndingAt HasBegun
-back_safe terms w p t due write [] sound phase ending so ends =
-    placed terms w p (record t { due = due }) sound (told_same terms w p t (record t { due = due }) (due_same terms w p t due) t.ending so) Close tt phase (back_close write [] t.ending ending) tt
-back_safe terms w p t due write (next ∷ behind) sound phase ending so ends =
+roll_back_safe terms w p t due write [] sound phase ending so ends =
+    placed terms w p (record t { due = due }) sound (told_same terms w p t (record t { due = due }) (due_same terms w p t due) t.ending so) Close tt phase (roll_back_close write [] t.ending ending) tt
+roll_back_safe terms w p t due write (next ∷ behind) sound phase ending so ends =
     placed terms w p (record t { due = due }) sound (told_same terms w p t (record t { due = due }) (due_same terms w p t due) t.ending so) (RollBack next behind) tt phase
     ending ends
 
 -- ---- a level
 
--- a cell that is given back out of the middle
+-- a cell that is released out of the middle
 out_else : (kept behind : List Write) (write : Write) (cell : ℕ) → cell ≢ write.0 → writes_to (kept ++ write ∷ behind) cell ≡ writes_to (kept ++ behind) cell
 out_else [] behind write cell other = writes_to_else write behind cell other
 out_else (first ∷ kept) behind write cell other = ap (λ rest. nat_eq cell first.0 || rest) (out_else kept behind write cell other)
@@ -106,7 +106,7 @@ given_alike : (t : Attempt) (due : List Due) (kept : List Write) (write : Write)
     → AlikeAt cell (release_level_on (record t { due = due }) kept behind) (at t (ReleaseLevel kept write behind))
 unfolding held_at unmarked_at unstored_at
 given_alike t due kept write behind gives undecided cell other =
-    let these : HoldsThese (release_level_on (record t { due = due }) kept behind) kept behind cell = given_holds (record t { due = due }) kept behind cell gives undecided in
+    let these : HoldsThese (release_level_on (record t { due = due }) kept behind) kept behind cell = level_holds (record t { due = due }) kept behind cell gives undecided in
     record {
       held = these.held ∙ sym (out_else kept behind write cell other);
       marked = λ held. these.unmarked ∙ sym (and_not (writes_to (kept ++ write ∷ behind) cell));
@@ -146,9 +146,9 @@ mark_stamp t [] none = rw none refl
 mark_stamp t (next ∷ behind) none = rw none refl
 
 module _ (lawful : List ℕ → Type 0) (may : List ℕ → List ℕ → Type 0) (terms : Terms) (w : World) (p : ℕ) (safe : Safe lawful may terms w) (caller : IsCaller terms p) where
-  pub keeps_back : (write : Write) (behind : List Write) → (attempt_of w p).stage ≡ RollBack write behind → Safe lawful may terms (stepped w p (RollBack write behind))
+  pub keeps_roll_back : (write : Write) (behind : List Write) → (attempt_of w p).stage ≡ RollBack write behind → Safe lawful may terms (stepped w p (RollBack write behind))
   unfolding next_at after_at words_after found seen_after since_at clock_after held_at SafeStage
-  keeps_back write behind is =
+  keeps_roll_back write behind is =
       let t = attempt_of w p in
       let own = safe.attempts p caller in
       let stage = RollBack write behind in
@@ -158,21 +158,21 @@ module _ (lawful : List ℕ → Type 0) (may : List ℕ → List ℕ → Type 0)
       let ending : EndingAt stage t.ending = ending_is terms w p stage own is in
       let within : cell < cells_in terms = written_cell lawful may terms w p safe caller cell next.there in
       let mine : (w.meta cell).owner ≡ p = owner_is lawful may terms w safe p cell caller.0 within (held_here lawful may terms w p safe caller stage is cell (writes_to_here write behind)) in
-      let stamp : stamp_on w cell ≡ 0 = rw mine (back_stamp write behind t.ending ending) in
+      let stamp : stamp_on w cell ≡ 0 = rw mine (roll_back_stamp write behind t.ending ending) in
       let settled : HoldsNewest terms w cell = (safe.cells cell within).settled stamp in
       let due = ring_if (w.meta cell).pending cell in
       let meta : Meta = record (w.meta cell) { changing = false; owner = 0 } in
       let u = roll_on (record t { due = due }) behind in
       safe_touched lawful may terms w p safe caller cell within meta u stage is
-      (λ other apart. back_alike t due write behind other apart)
-      (back_follows t due write behind)
-      (back_safe terms w p t due write behind (sound_of terms w p t own) (phase_is terms w p stage own is) ending own.ends_so (ends_more t.now.writes write behind ends))
+      (λ other apart. roll_back_alike t due write behind other apart)
+      (roll_back_follows t due write behind)
+      (roll_back_safe terms w p t due write behind (sound_of terms w p t own) (phase_is terms w p stage own is) ending own.ends_so (ends_more t.now.writes write behind ends))
       (omega arith) (λ same set. set) (inl stamp)
-      (freed lawful may terms w p safe caller cell within meta u refl refl (back_free (record t { due = due }) cell behind next.done) mine settled.version settled.value)
+      (freed lawful may terms w p safe caller cell within meta u refl refl (roll_back_free (record t { due = due }) cell behind next.done) mine settled.version settled.value)
 
-  pub keeps_give_back : (kept : List Write) (write : Write) (behind : List Write) → (attempt_of w p).stage ≡ ReleaseLevel kept write behind → Safe lawful may terms (stepped w p (ReleaseLevel kept write behind))
+  pub keeps_release_level : (kept : List Write) (write : Write) (behind : List Write) → (attempt_of w p).stage ≡ ReleaseLevel kept write behind → Safe lawful may terms (stepped w p (ReleaseLevel kept write behind))
   unfolding next_at after_at words_after found seen_after since_at clock_after held_at flies_at HasBegun EndingAt PhaseAt SafeStage
-  keeps_give_back kept write behind is =
+  keeps_release_level kept write behind is =
       let t = attempt_of w p in
       let own = safe.attempts p caller in
       let stage = ReleaseLevel kept write behind in
@@ -188,11 +188,11 @@ module _ (lawful : List ℕ → Type 0) (may : List ℕ → List ℕ → Type 0)
       let more : GivesBack (record t { due = due }) kept behind = gives_more t due kept write behind gives in
       let meta : Meta = record (w.meta cell) { changing = false; owner = 0 } in
       let u = release_level_on (record t { due = due }) kept behind in
-      let these : HoldsThese u kept behind cell = given_holds (record t { due = due }) kept behind cell more undecided in
+      let these : HoldsThese u kept behind cell = level_holds (record t { due = due }) kept behind cell more undecided in
       safe_touched lawful may terms w p safe caller cell within meta u stage is
       (λ other apart. given_alike t due kept write behind more undecided other apart)
-      (given_follows t due stage kept behind tt refl undecided)
-      (given_safe terms w p (record t { due = due }) kept behind (sound_of terms w p t own) more active undecided)
+      (level_follows t due stage kept behind tt refl undecided)
+      (level_safe terms w p (record t { due = due }) kept behind (sound_of terms w p t own) more active undecided)
       (omega arith) (λ same set. set) (inl stamp)
       (freed lawful may terms w p safe caller cell within meta u refl refl (these.held ∙ out_gone t kept write behind own.entry.writes_apart gives) mine settled.version settled.value)
 

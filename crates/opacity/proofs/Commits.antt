@@ -117,9 +117,9 @@ module _ (lawful : List ℕ → Type 0) (may : List ℕ → List ℕ → Type 0)
   sound : Sound terms w p t
   sound = sound_of terms w p t own
 
-  pub keeps_sample : (lost : ℕ) → t.stage ≡ CommitClock lost → Safe lawful may terms (stepped w p (CommitClock lost))
+  pub keeps_commit_clock : (lost : ℕ) → t.stage ≡ CommitClock lost → Safe lawful may terms (stepped w p (CommitClock lost))
   unfolding next_at after_at words_after found seen_after since_at clock_after SafeStage
-  keeps_sample lost is =
+  keeps_commit_clock lost is =
       let stage = CommitClock lost in
       safe_seen lawful may terms w p safe caller stage is _
       (checks terms w p t stage tt (phase_is terms w p stage own is) (ending_is terms w p stage own is) sound lost w.clock t.notes (stage_is terms w p stage own is) safe.limit
@@ -129,9 +129,9 @@ module _ (lawful : List ℕ → Type 0) (may : List ℕ → List ℕ → Type 0)
   no_stamp : (stage : Stage) → Weighs stage → t.stage ≡ stage → stamp_of t ≡ 0
   no_stamp stage weighs is = let none = (weigh_facts stage weighs).ending_from t.ending (ending_is terms w p stage own is) in rw none refl
 
-  pub keeps_check : (lost clock : ℕ) (note : Note) (behind : List Note) → t.stage ≡ CommitNote lost clock note behind → Safe lawful may terms (stepped w p (CommitNote lost clock note behind))
+  pub keeps_commit_note : (lost clock : ℕ) (note : Note) (behind : List Note) → t.stage ≡ CommitNote lost clock note behind → Safe lawful may terms (stepped w p (CommitNote lost clock note behind))
   unfolding next_at after_at words_after found seen_after since_at clock_after SafeStage note_validated Evidence NamesNote
-  keeps_check lost clock note behind is =
+  keeps_commit_note lost clock note behind is =
       safe_seen lawful may terms w p safe caller stage is _ (go (still_has t.own note.version (w.meta note.addr.0)) refl) (knows_attempt lawful may terms w p safe caller _ refl refl refl)
     where
       stage : Stage

@@ -48,15 +48,15 @@ module _ (n : ℕ) (meta : ℕ → Meta) (t : Attempt) (calm : EndsByItself t.en
   goes_store [] = goes_release t.now.writes
   goes_store (write ∷ behind) = goes_plain (StoreValues write behind) tt tt
 
-  pub goes_back : (behind : List Write) → GoesAlone n meta (roll_on t behind)
+  pub goes_roll_back : (behind : List Write) → GoesAlone n meta (roll_on t behind)
   unfolding cause_at
-  goes_back [] = goes_plain Close tt tt
-  goes_back (write ∷ behind) = goes_plain (RollBack write behind) tt tt
+  goes_roll_back [] = goes_plain Close tt tt
+  goes_roll_back (write ∷ behind) = goes_plain (RollBack write behind) tt tt
 
 module _ (n : ℕ) (meta : ℕ → Meta) (t : Attempt) where
   pub goes_rolled : (cause : Cause) → IsOwn cause → GoesAlone n meta (rolled t cause)
   unfolding EndsByItself
-  goes_rolled cause own = goes_back n meta (record t { ending = Some (Rolled cause t.prefix) }) own t.now.writes
+  goes_rolled cause own = goes_roll_back n meta (record t { ending = Some (Rolled cause t.prefix) }) own t.now.writes
 
 module _ (n : ℕ) (meta : ℕ → Meta) (t : Attempt) where
   module _ (calm : EndsByItself t.ending) (here : t.prefix ≡ n) where
@@ -65,19 +65,19 @@ module _ (n : ℕ) (meta : ℕ → Meta) (t : Attempt) where
     goes_mark [] = goes_plain n meta t calm (CommitClock 0) tt here
     goes_mark (write ∷ behind) = goes_plain n meta t calm (Mark write behind) tt here
 
-    pub goes_check : (lost clock : ℕ) (behind : List Note) → clock ≡ n → GoesAlone n meta (validate_on t lost clock behind)
+    pub goes_validate : (lost clock : ℕ) (behind : List Note) → clock ≡ n → GoesAlone n meta (validate_on t lost clock behind)
     unfolding cause_at validate_on IsOwn
-    goes_check lost clock [] now = go (nat_eq clock t.settings.clock)
+    goes_validate lost clock [] now = go (nat_eq clock t.settings.clock)
       where
         go : (b : Bool) → GoesAlone n meta (if b then rolled (record t { prefix = clock }) (ClockEnd clock) else at t (Decide lost clock))
         go true = goes_rolled n meta (record t { prefix = clock }) (ClockEnd clock) tt
         go false = goes_plain n meta t calm (Decide lost clock) tt (here, now)
-    goes_check lost clock (note ∷ behind) now = goes_plain n meta t calm (CommitNote lost clock note behind) tt (here, now)
+    goes_validate lost clock (note ∷ behind) now = goes_plain n meta t calm (CommitNote lost clock note behind) tt (here, now)
 
-    pub goes_give_back : (kept behind : List Write) → GoesAlone n meta (release_level_on t kept behind)
+    pub goes_release_level : (kept behind : List Write) → GoesAlone n meta (release_level_on t kept behind)
     unfolding cause_at
-    goes_give_back kept [] = record { stage = here; undisturbed = record { refused = tt; ending = calm } }
-    goes_give_back kept (write ∷ behind) = goes_plain n meta t calm (ReleaseLevel kept write behind) tt here
+    goes_release_level kept [] = record { stage = here; undisturbed = record { refused = tt; ending = calm } }
+    goes_release_level kept (write ∷ behind) = goes_plain n meta t calm (ReleaseLevel kept write behind) tt here
 
     -- ---- asks
 
@@ -122,7 +122,7 @@ module _ (n : ℕ) (meta : ℕ → Meta) (t : Attempt) where
 
     undoes : (saved : List Book) → 0 < length saved → GoesAlone n meta (undo_level t saved)
     undoes [] some = absurd (omega arith)
-    undoes (former ∷ books) some = goes_give_back former.writes (drop (length former.writes) t.now.writes)
+    undoes (former ∷ books) some = goes_release_level former.writes (drop (length former.writes) t.now.writes)
 
     going : (ask : Ask) → IfSome (cause_at t.stage) IsOwn → (size : ℕ) → MayAsk size t ask → GoesAlone n meta (asked_going t ask)
     unfolding asked_going MayAsk cause_at
