@@ -32,7 +32,7 @@ same_bool_refl : (b : Bool) → same_bool b b ≡ true
 same_bool_refl true = refl
 same_bool_refl false = refl
 
-pub same_refl : (meta : Meta) → same_but_pending meta meta ≡ true
+same_refl : (meta : Meta) → same_but_pending meta meta ≡ true
 same_refl meta = rw same_bool_refl (numbers meta.owner meta.version)
   where
     numbers : (owner version : ℕ) → (nat_eq owner owner && nat_eq version version) ≡ true
@@ -47,10 +47,10 @@ pub record Alike (meta other : Meta) : Type 0 where
   pub owner : meta.owner ≡ other.owner
   pub version : meta.version ≡ other.version
 
-pub alike_parts : (meta other : Meta) → same_but_pending meta other ≡ true → Alike meta other
+alike_parts : (meta other : Meta) → same_but_pending meta other ≡ true → Alike meta other
 alike_parts meta other same = record { changing = grind (arith, nat_tests); owner = grind (arith, nat_tests); version = grind (arith, nat_tests) }
 
-pub alike_from : (meta other : Meta) → Alike meta other → same_but_pending meta other ≡ true
+alike_from : (meta other : Meta) → Alike meta other → same_but_pending meta other ≡ true
 alike_from meta other alike = rw (alike.changing, alike.owner, alike.version) (same_refl other)
 
 pub same_parts : (meta other : Meta) → same_meta meta other ≡ true → Alike meta other

@@ -36,7 +36,7 @@ if_below true x y n low high = low
 if_below false x y n low high = high
 
 module _ (terms : Terms) (w v : World) (cell : ℕ) (same : SameCell terms w v cell) where
-  pub stamp_kept : stamp_on v cell ≡ stamp_on w cell
+  stamp_kept : stamp_on v cell ≡ stamp_on w cell
   stamp_kept = rw same.meta same.stamp
 
   value_kept : Continues terms w v → (n : ℕ) → n ≤ length w.history → value_then terms v n cell ≡ value_then terms w n cell

@@ -31,7 +31,7 @@ pub record MayRoll (t : Attempt) (here : Stage) : Type 0 where
 unmarked_active : (phase : Phase) (writes : List Write) → phase ≡ Active → writes ≡ (if has_prepared phase then [] else writes)
 unmarked_active phase writes active = rw active refl
 
-pub may_roll_open : (t : Attempt) (here : Stage) → IsOpen here → PhaseAt here t.ending t.phase → EndingAt here t.ending → MayRoll t here
+may_roll_open : (t : Attempt) (here : Stage) → IsOpen here → PhaseAt here t.ending t.phase → EndingAt here t.ending → MayRoll t here
 may_roll_open t here is_open phase ending =
     let facts = open_facts here is_open in
     record {

@@ -28,7 +28,7 @@ pub sees_more : (view : View) (n : ℕ) → view.seen ≤ n → IsKnown view →
 sees_more view n more known = record { prefix = omega (arith, known.prefix, more); clock = omega (arith, known.clock, more) }
 
 -- the view at one place, where it was replaced there or elsewhere
-pub known_replaced : (w : World) (p : ℕ) (view : View) (q : ℕ) → IsKnown view → IsKnown (w.view q) → IsKnown ((with_view w p view).view q)
+known_replaced : (w : World) (p : ℕ) (view : View) (q : ℕ) → IsKnown view → IsKnown (w.view q) → IsKnown ((with_view w p view).view q)
 known_replaced w p view q here there = elim (cases_eq q p) [
   | inl own ↦ rw (own, replaced_here w.view p view) here
   | inr other ↦ rw (replaced_else w.view p view q other) there

@@ -54,7 +54,7 @@ module _ (terms : Terms) (w : World) (p : ℕ) (t : Attempt) (sound : Sound term
 
 -- ---- a level is undone
 
-pub All-front : {X : Type 0} (P : X → Type 0) (front behind : List X) → All P (front ++ behind) → All P front
+All-front : {X : Type 0} (P : X → Type 0) (front behind : List X) → All P (front ++ behind) → All P front
 All-front P front behind all = λ k d within.
     let here : k < length (front ++ behind) = omega (arith, length-append front behind) in
     rw (get_or_append_left front behind d k within) at (all k d here)

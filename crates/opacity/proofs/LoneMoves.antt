@@ -54,7 +54,7 @@ module _ (n : ℕ) (meta : ℕ → Meta) (t : Attempt) (calm : EndsByItself t.en
   goes_roll_back (write ∷ behind) = goes_plain (RollBack write behind) tt tt
 
 module _ (n : ℕ) (meta : ℕ → Meta) (t : Attempt) where
-  pub goes_rolled : (cause : Cause) → IsOwn cause → GoesAlone n meta (rolled t cause)
+  goes_rolled : (cause : Cause) → IsOwn cause → GoesAlone n meta (rolled t cause)
   unfolding EndsByItself
   goes_rolled cause own = goes_roll_back n meta (record t { ending = Some (Rolled cause t.prefix) }) own t.now.writes
 

@@ -102,7 +102,7 @@ module _ (lawful : List ℕ → Type 0) (may : List ℕ → List ℕ → Type 0)
   event_alone event leaves able = record { lone = lone_then event leaves; word = not_doomed event leaves able; goes = event_goes event leaves able }
 
 module _ (lawful : List ℕ → Type 0) (may : List ℕ → List ℕ → Type 0) (terms : Terms) (p : ℕ) (caller : IsCaller terms p) where
-  pub run_alone : (events : List Event) (w : World) → Safe lawful may terms w → IsAlone w p → MayRun terms w events → MeetAllOwed lawful may terms w events → All (LeavesAlone p) events → IsAlone (run w events) p
+  run_alone : (events : List Event) (w : World) → Safe lawful may terms w → IsAlone w p → MayRun terms w events → MeetAllOwed lawful may terms w events → All (LeavesAlone p) events → IsAlone (run w events) p
   run_alone [] w safe alone able meets leaves = alone
   run_alone (event ∷ events) w safe alone able meets leaves =
       run_alone events (happened w event) (event_safe lawful may terms w event able.0 meets.0 safe)

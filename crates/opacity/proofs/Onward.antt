@@ -34,13 +34,13 @@ continues_same terms w v same = record {
 }
 
 module _ (terms : Terms) (w v : World) (on : Onward terms w v) where
-  pub current_onward : (n : ℕ) (note : Note) → n ≤ length w.history → IsCurrent terms.opening w.history n note → IsCurrent terms.opening v.history n note
+  current_onward : (n : ℕ) (note : Note) → n ≤ length w.history → IsCurrent terms.opening w.history n note → IsCurrent terms.opening v.history n note
   current_onward n note low current = record {
     value = rw (on.goes.state n low) current.value;
     version = rw (on.goes.last n note.addr.0 low) current.version;
   }
 
-  pub all_onward : (n : ℕ) (notes : List Note) → n ≤ length w.history → All (IsCurrent terms.opening w.history n) notes → All (IsCurrent terms.opening v.history n) notes
+  all_onward : (n : ℕ) (notes : List Note) → n ≤ length w.history → All (IsCurrent terms.opening w.history n) notes → All (IsCurrent terms.opening v.history n) notes
   all_onward n notes low = All-weaker (IsCurrent terms.opening w.history n) (IsCurrent terms.opening v.history n) (λ note. current_onward n note low) notes
 
   seen_onward : (t : Attempt) (cell : ℕ) (first : Meta) → cell < cells_in terms → WasSeen w t cell first → WasSeen v t cell first
@@ -74,7 +74,7 @@ module _ (terms : Terms) (w v : World) (on : Onward terms w v) where
         (λ note is. is ∙ sym (on.goes.last clock note.addr.0 sampled.high)) sampled.checked sampled.each;
   }
 
-  pub stage_onward : (t : Attempt) (stage : Stage) → t.prefix ≤ length w.history → SafeStage terms w t stage → SafeStage terms v t stage
+  stage_onward : (t : Attempt) (stage : Stage) → t.prefix ≤ length w.history → SafeStage terms w t stage → SafeStage terms v t stage
   unfolding SafeStage
   stage_onward t Announce low h = h
   stage_onward t Begin low h = h

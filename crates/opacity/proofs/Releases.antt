@@ -17,7 +17,7 @@ use Rattle.opacity.proofs.Stepping.{IsStamped, release_close, release_phase, sta
 use Rattle.opacity.proofs.Touch.{freed, owner_is, safe_touched}
 use Rattle.opacity.proofs.Walks.{IsNext, all_among, ends_more, next_of, writes_to_else, writes_to_here}
 
-pub release_alike : (t : Attempt) (due : List Due) (write : Write) (behind : List Write) (cell : ℕ) → cell ≢ write.0 → AlikeAt cell (release_on (record t { due = due }) behind) (at t (Release write behind))
+release_alike : (t : Attempt) (due : List Due) (write : Write) (behind : List Write) (cell : ℕ) → cell ≢ write.0 → AlikeAt cell (release_on (record t { due = due }) behind) (at t (Release write behind))
 unfolding held_at unmarked_at unstored_at
 release_alike t due write [] cell other =
     let free : writes_to (write ∷ []) cell ≡ false = writes_to_else write [] cell other in

@@ -45,9 +45,9 @@ module _ (lawful : List ℕ → Type 0) (may : List ℕ → List ℕ → Type 0)
       let x : View = record (w.view p) { attempt = moved (attempt_of w p) this } in
       let here : (move w p this).view p ≡ x = replaced_here w.view p x in
       let on : Safe lawful may terms (moved_by (move w p this) p moves) = moves_safe moves (move w p this) p caller
-          (subst (λ (view : View). MayAll (cells_in terms) terms.limit view.attempt moves) (sym here) able.1) (move_once w p this caller able.0 safe) in
+      (subst (λ (view : View). MayAll (cells_in terms) terms.limit view.attempt moves) (sym here) able.1) (move_once w p this caller able.0 safe) in
       let same : moved_by (move w p this) p moves ≡ moved_by w p (this ∷ moves) =
-          ap (λ (view : View). with_view (move w p this) p (record view { attempt = moved_on view.attempt moves })) here ∙ later_view w p x _ in
+      ap (λ (view : View). with_view (move w p this) p (record view { attempt = moved_on view.attempt moves })) here ∙ later_view w p x _ in
       subst (Safe lawful may terms) same on
 
   pub safe_opaque : (w : World) (p : ℕ) → Safe lawful may terms w → IsCaller terms p → HasBegun (attempt_of w p).stage → IsKept (attempt_of w p).stage (attempt_of w p).ending

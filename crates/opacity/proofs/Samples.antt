@@ -15,7 +15,7 @@ use Rattle.stm_model.proofs.HistoryLemmas.{IsCurrent-moved, last_below, same_sin
 use Rattle.opacity.proofs.Touch.{free_stamp}
 
 -- the last writer at a later place is no earlier
-pub last_rises : (opening : List ℕ) (history : List Entry) (m n cell : ℕ) → m ≤ n → last history m cell ≤ last history n cell
+last_rises : (opening : List ℕ) (history : List Entry) (m n cell : ℕ) → m ≤ n → last history m cell ≤ last history n cell
 last_rises opening history m n cell low = elim (cases_lt (last history n cell) m) [
   | inl less ↦ omega (arith, (same_since_last opening history n m cell low (omega arith)).0)
   | inr more ↦ omega (arith, more, last_below history m cell)

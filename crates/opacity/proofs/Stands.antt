@@ -177,7 +177,7 @@ module _ (terms : Terms) (w : World) (p : ℕ) where
     entry_same : entry_of u ≡ entry_of t
     entry_same = rw (same.own, same.serial, same.notes, same.writes) refl
 
-    pub evidence_same : (cause : Cause) → Shows t cause → Shows u cause
+    evidence_same : (cause : Cause) → Shows t cause → Shows u cause
     evidence_same cause shown = rw (same.own, same.settings, same.notes) shown
 
     pub told_same : (ending : Option Ending) → EndsSo w t ending → EndsSo w u ending
@@ -187,7 +187,7 @@ module _ (terms : Terms) (w : World) (p : ℕ) where
     told_same (Some (Read prefix)) told = told ∙ sym same.prefix
     told_same (Some (Rolled cause prefix)) told = (told.0 ∙ sym same.prefix, to_shown u cause (evidence_same cause (from_shown t cause told.1)))
 
-  pub at_same : (t : Attempt) (stage : Stage) → SameGround t (at t stage)
+  at_same : (t : Attempt) (stage : Stage) → SameGround t (at t stage)
   at_same t stage = record { own = refl; serial = refl; settings = refl; prefix = refl; notes = refl; writes = refl; saved = refl }
 
   -- It may stand at a stage where its phase and its ending may, and what the stage says holds of it, and its cause is shown.
@@ -203,7 +203,7 @@ IsPlain Begin = ⊥
 IsPlain (Stopped cause) = ⊥
 IsPlain stage = Unit {0}
 
-pub plain_begun : (stage : Stage) → IsPlain stage → HasBegun stage
+plain_begun : (stage : Stage) → IsPlain stage → HasBegun stage
 unfolding HasBegun
 plain_begun Announce plain = absurd plain
 plain_begun Begin plain = absurd plain

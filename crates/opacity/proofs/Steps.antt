@@ -55,7 +55,7 @@ module _ (lawful : List ℕ → Type 0) (may : List ℕ → List ℕ → Type 0)
   by_due [] owes = stands (attempt_of w p).stage refl owes
   by_due (due ∷ dues) owes = safe
 
-  pub step_safe : Meets lawful may terms w (attempt_of w p) (next (attempt_of w p)) → Safe lawful may terms (step w p)
+  step_safe : Meets lawful may terms w (attempt_of w p) (next (attempt_of w p)) → Safe lawful may terms (step w p)
   step_safe owes = rw (step_is w p (next (attempt_of w p))) (by_due (attempt_of w p).due owes)
 
 -- ---- events

@@ -23,10 +23,10 @@ unfolding held_at
 ended_marks t cell is = rw is refl
 
 module _ (lawful : List ℕ → Type 0) (may : List ℕ → List ℕ → Type 0) (terms : Terms) (w : World) (safe : Safe lawful may terms w) where
-  pub nobody_marks : (cell : ℕ) → marks (attempt_of w 0) cell ≡ false
+  nobody_marks : (cell : ℕ) → marks (attempt_of w 0) cell ≡ false
   nobody_marks cell = ended_marks (attempt_of w 0) cell (safe.nobody 0 (inl refl)).stage
 
-  pub nobody_stamp : stamp_of (attempt_of w 0) ≡ 0
+  nobody_stamp : stamp_of (attempt_of w 0) ≡ 0
   nobody_stamp = (safe.nobody 0 (inl refl)).stamp
 
   -- a cell that nobody owns isn't changing, and no decided writer owns it

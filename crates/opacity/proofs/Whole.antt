@@ -23,7 +23,7 @@ was_active t old safe active = elim safe.phase [
   | inr is ↦ is.0
 ]
 
-pub status_kept : (t : Attempt) (old new : TxnStatus) → KeepsWord old new → SafeStatus t old → SafeStatus t new
+status_kept : (t : Attempt) (old new : TxnStatus) → KeepsWord old new → SafeStatus t old → SafeStatus t new
 status_kept t old new (inl same) safe = rw same safe
 status_kept t old new (inr is) safe = rw is.1 (record { serial = safe.serial; phase = inr (was_active t old safe is.0, refl) })
 
@@ -34,7 +34,7 @@ nobody_kept view old new (inr active) is =
     let clash : Active ≡ Idle = sym active.0 ∙ idle in
     cc
 
-pub serial_kept : (old new : TxnStatus) → KeepsWord old new → old.serial ≤ new.serial
+serial_kept : (old new : TxnStatus) → KeepsWord old new → old.serial ≤ new.serial
 serial_kept old new (inl same) = rw same (omega arith)
 serial_kept old new (inr is) = rw is.1 (omega arith)
 
@@ -133,7 +133,7 @@ module _ (lawful : List ℕ → Type 0) (may : List ℕ → List ℕ → Type 0)
     ];
   }
 
-  pub safe_quiet : Onward terms w then → ((q : ℕ) → q ≢ p → KeepsWord (w.status q) (status q)) → ((cell : ℕ) → cell < cells_in terms → SafeCell terms then cell)
+  safe_quiet : Onward terms w then → ((q : ℕ) → q ≢ p → KeepsWord (w.status q) (status q)) → ((cell : ℕ) → cell < cells_in terms → SafeCell terms then cell)
       → OwnSafe terms w p view (status p) → Safe lawful may terms then
   safe_quiet on words cells own =
       assemble lawful may terms w then p safe caller on view_else words safe.clock safe.limit safe.legal

@@ -46,7 +46,7 @@ tests_agree false false there back = refl
 status_itself : (status : TxnStatus) → same_status status status ≡ true
 status_itself status = grind (arith, nat_tests)
 
-pub status_tests : (word : ℕ) (old : TxnStatus) → word < 2 ^ 64 → StatusFits old → same_status (status_of word) old ≡ nat_eq word (status_word old)
+status_tests : (word : ℕ) (old : TxnStatus) → word < 2 ^ 64 → StatusFits old → same_status (status_of word) old ≡ nat_eq word (status_word old)
 status_tests word old below fits = tests_agree _ _
     (λ same. eq-eqb word (status_word old) (sym (status_word-status_of word below) ∙ ap status_word (status_same (status_of word) old same)))
     (λ same. rw (eqb-true word (status_word old) same, status_of-status_word old fits) (status_itself old))
@@ -57,7 +57,7 @@ meta_same meta other same =
     let pending = same_pending meta other same in
     λ i. record { changing = parts.changing i; pending = pending i; owner = parts.owner i; version = parts.version i }
 
-pub meta_tests : (word : ℕ) (old : Meta) → word < 2 ^ 64 → MetaFits old → same_meta (meta_of word) old ≡ nat_eq word (meta_word old)
+meta_tests : (word : ℕ) (old : Meta) → word < 2 ^ 64 → MetaFits old → same_meta (meta_of word) old ≡ nat_eq word (meta_word old)
 meta_tests word old below fits = tests_agree _ _
     (λ same. eq-eqb word (meta_word old) (sym (meta_word-meta_of word below) ∙ ap meta_word (meta_same (meta_of word) old same)))
     (λ same. rw (eqb-true word (meta_word old) same, meta_of-meta_word old fits) (same_whole old))
