@@ -5,10 +5,10 @@ use Rattle.stm_model.specs.Accesses.{value_of_cell}
 use Rattle.stm_model.specs.History.{Entry, state}
 use Rattle.stm_model.specs.Safe.{HoldsNewest, Safe}
 use Rattle.stm_model.specs.World.{Terms, View, World, attempt_of, cells_in, place_of, world_of}
-use Rattle.opacity.specs.Alone.{IsAtRest}
+use Rattle.opacity.specs.Alone.{NoneInFlight}
 use Rattle.opacity.proofs.Touch.{ended_holds, free_stamp, owner_is_not, owner_low}
 
-module _ (lawful : List ℕ → Type 0) (may : List ℕ → List ℕ → Type 0) (terms : Terms) (w : World) (safe : Safe lawful may terms w) (rests : IsAtRest terms w) (cell : ℕ) (within : cell < cells_in terms) where
+module _ (lawful : List ℕ → Type 0) (may : List ℕ → List ℕ → Type 0) (terms : Terms) (w : World) (safe : Safe lawful may terms w) (rests : NoneInFlight terms w) (cell : ℕ) (within : cell < cells_in terms) where
   abbrev owner : ℕ
   owner = (w.meta cell).owner
 
@@ -25,7 +25,7 @@ module _ (lawful : List ℕ → Type 0) (may : List ℕ → List ℕ → Type 0)
   rests_newest = (safe.cells cell within).settled (free_stamp lawful may terms w safe cell rests_free)
 
 pub rests_words : (lawful : List ℕ → Type 0) (may : List ℕ → List ℕ → Type 0) (terms : Terms) (words : List ℕ) (history : List Entry) (view : ℕ → View) (cell : ℕ)
-    → (let w = world_of terms words history view in Safe lawful may terms w → IsAtRest terms w → cell < cells_in terms
+    → (let w = world_of terms words history view in Safe lawful may terms w → NoneInFlight terms w → cell < cells_in terms
     → get_or words (place_of terms.callers (value_of_cell cell)) 0 ≡ get_or (state terms.opening history (length history)) cell 0)
 unfolding world_of place_of
 rests_words lawful may terms words history view cell safe rests within = (rests_newest lawful may terms (world_of terms words history view) safe rests cell within).value

@@ -67,8 +67,8 @@ pub record IsAlone (w : World) (p : ℕ) : Type 0 where
   pub goes : GoesAlone (length w.history) w.meta (attempt_of w p)
 
 -- No caller has an attempt in flight.
-abbrev pub IsAtRest : Terms → World → Type 0
-IsAtRest terms w = (p : ℕ) → IsCaller terms p → (attempt_of w p).stage ≡ Ended
+abbrev pub NoneInFlight : Terms → World → Type 0
+NoneInFlight terms w = (p : ℕ) → IsCaller terms p → (attempt_of w p).stage ≡ Ended
 
 -- The event is this caller's, or a look at the clock.
 unfoldable pub LeavesAlone : ℕ → Event → Type 0

@@ -19,7 +19,7 @@ use Rattle.opacity.specs.declared.world.Committed.{Committed}
 abbrev pub terms_of : List ℕ → (callers limit : ℕ) → Terms
 terms_of opening callers limit = record { opening = opening; callers = callers; limit = limit }
 
--- The attempts shows the attempts of these views, that of caller p at index p - 1.
+-- The list shows the attempts of these views, that of caller p at index p - 1.
 pub record AreAttempts {V : Type 0} (shows : V → Option Attempt) (callers : ℕ) (attempts : List V) (view : ℕ → View) : Type 0 where
   pub size : length attempts ≡ callers
   pub in_flight : (p : ℕ) (d : V) → 0 < p → p ≤ callers → IfSome (shows (slice_index_or attempts (p - 1) d)) (λ t. (view p).attempt ≡ t)

@@ -1,7 +1,7 @@
 //! The laws of what is safe. Each function does nothing: its clauses are theorems, over all laws of heaps, worlds and callers.
 ghost use Rattle.std.specs.Prelude.{◌≡◌, ◌≢◌, ◌⊎◌, ◌++◌, ◌∷◌, ◌-◌, ◌<◌, ◌≤◌, [], ℕ, IfSome, IsTrue, List, Some, length, take};
 ghost use Rattle.meta_word.specs.declared.status.Phase.TheVariants.{Doomed};
-ghost use Rattle.opacity.specs.Alone.{IsAlone, IsAtRest, IsLone, IsUndisturbed, LeavesAlone};
+ghost use Rattle.opacity.specs.Alone.{IsAlone, NoneInFlight, IsLone, IsUndisturbed, LeavesAlone};
 ghost use Rattle.opacity.specs.Effects.{IsToDoom, WinsClock, caller_of, learn, moved_by};
 ghost use Rattle.opacity.specs.Known.{IsKnown};
 ghost use Rattle.opacity.specs.Runs.{MeetAllOwed};
@@ -75,9 +75,9 @@ pub fn what_is_written_is_owned<L: Law>()
 /// Where nobody has an attempt in flight, each cell of a safe world holds what the whole history has left
 /// there, and nobody owns it.
 pub fn a_world_at_rest_holds_the_last_heap<L: Law>()
-    ensures newest { (law : L) (terms : Terms) (w : World) (cell : ℕ) → Safe (L.lawful law) (L.may law) terms w → IsAtRest terms w →
+    ensures newest { (law : L) (terms : Terms) (w : World) (cell : ℕ) → Safe (L.lawful law) (L.may law) terms w → NoneInFlight terms w →
         cell < cells_in terms → HoldsNewest terms w cell }
-    ensures free { (law : L) (terms : Terms) (w : World) (cell : ℕ) → Safe (L.lawful law) (L.may law) terms w → IsAtRest terms w →
+    ensures free { (law : L) (terms : Terms) (w : World) (cell : ℕ) → Safe (L.lawful law) (L.may law) terms w → NoneInFlight terms w →
         cell < cells_in terms → (w.meta cell).owner ≡ 0 }
 {}
 

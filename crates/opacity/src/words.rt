@@ -1,7 +1,7 @@
 //! The laws of words: what an access does to the words of a table is what it does to the world that they show.
 ghost use Rattle.std.specs.Prelude.{◌≡◌, ◌⊎◌, ◌++◌, ◌∷◌, ◌<◌, [], ℕ, IfSome, List, Some, length, slice_index};
 ghost use Rattle.opacity.specs.Plain.{IsTableStep, OpensTo};
-ghost use Rattle.opacity.specs.Alone.{IsAtRest};
+ghost use Rattle.opacity.specs.Alone.{NoneInFlight};
 ghost use Rattle.opacity.specs.Words.{BringsWords, FieldsFit, FitsTable, IsOfTable, IsTable, table_after, word_found};
 ghost use Rattle.stm_model.specs.Accesses.{Act, ExchangeClock, access_of, answer_of, next, next_at, value_of_cell, word_of};
 ghost use Rattle.stm_model.specs.Attempt.{Attempt};
@@ -77,6 +77,6 @@ pub fn an_opening_table_shows_the_opened_world()
 /// of its history.
 pub fn a_table_at_rest_holds_the_last_heap<L: Law>()
     ensures { (law : L) (terms : Terms) (words : List ℕ) (history : List Entry) (view : ℕ → View) (cell : ℕ) →
-        (let w = world_of terms words history view in Safe (L.lawful law) (L.may law) terms w → IsAtRest terms w → cell < cells_in terms →
+        (let w = world_of terms words history view in Safe (L.lawful law) (L.may law) terms w → NoneInFlight terms w → cell < cells_in terms →
         slice_index words (place_of terms.callers (value_of_cell cell)) ≡ slice_index (state terms.opening history (length history)) cell) }
 {}

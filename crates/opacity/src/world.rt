@@ -1,17 +1,15 @@
 //! The world as plain data.
-ghost use Rattle.std.specs.Prelude.{◌≡◌, ◌+◌, ◌*◌, ◌<◌, ◌^◌, ◌≤◌, ◌++◌, ◌∷◌, ◌≢◌, ℕ, List, [], IfOk, OnErr, OnOk, Some, length, slice_index, slice_set, vec_capacity, IsOk};
+ghost use Rattle.std.specs.Prelude.{◌≡◌, ◌+◌, ◌*◌, ◌<◌, ◌^◌, ◌≤◌, ◌≢◌, ℕ, List, [], IfOk, OnErr, OnOk, length, slice_index, vec_capacity, IsOk};
 ghost use Rattle.meta_word.specs.declared.meta.TheConstants.{MAX_OWNER, MAX_VERSION};
 ghost use Rattle.opacity.specs.Plain.{AreAttempts, MayDecide, IsUndecided, OpensTo, ShowsAccess, ShowsSafe, entry_by, entry_in, history_of, terms_of, writes_in};
 ghost use Rattle.opacity.specs.Words.{BringsWords, IsOfTable, effect, table_after, word_found};
-ghost use Rattle.stm_model.specs.Accesses.{LoadClock, SetPending, ExchangeClock, access_of, next, next_access, word_of};
-ghost use Rattle.stm_model.specs.Attempt.{Ended};
+ghost use Rattle.stm_model.specs.Accesses.{word_of};
 ghost use Rattle.opacity.specs.Facts.{AreWords-prop};
 ghost use Rattle.stm_model.specs.Heap.{AreWords};
 ghost use Rattle.stm_model.specs.History.{Entry};
 ghost use Rattle.stm_model.specs.Safe.{Safe};
-ghost use Rattle.meta_word.specs.Status.{status_of};
 ghost use Rattle.stm_model.specs.declared.settings.Settings.{Settings};
-ghost use Rattle.stm_model.specs.World.{IsCaller, MeetsOwed, Steps, View, cells_in, look, opened, place_of, step, wait, world_of};
+ghost use Rattle.stm_model.specs.World.{IsCaller, View, opened, place_of, step, world_of};
 
 use meta_word::unpack_status;
 use std::alloc::Global;
