@@ -20,7 +20,7 @@ use Rattle.stm_model.specs.World.{Terms, World, cells_in}
 use Rattle.stm_model.proofs.HeapLemmas.{writes_to-lookup}
 use Rattle.opacity.proofs.Cells.{AlikeAt}
 use Rattle.opacity.proofs.Ends.{gone_on, rolled_open, stopped_open}
-use Rattle.opacity.proofs.Fits.{Fits, IsOpen, goes_on_same, open_facts, open_fits, open_fits_with}
+use Rattle.opacity.proofs.Fits.{Fits, IsOpen, goes_on, goes_on_same, open_facts, open_fits, open_fits_with}
 use Rattle.opacity.proofs.Levels.{HoldsThese, and_not, level_holds, level_safe, gives_level, nest_outer, put_written}
 use Rattle.opacity.proofs.Shown.{Shows, abandon_shown}
 use Rattle.opacity.proofs.Stands.{IsPlain, Follows, Sound, follows_at, sound_levels}
@@ -72,7 +72,7 @@ module _ (terms : Terms) (w : World) (p : ℕ) (t : Attempt) (here : Stage) (is_
       → Fits terms w p (at t here) (at (record t { saved = saved }) there)
   with_saved saved there then_open shown nest stage =
       open_fits_with terms w p t (record t { saved = saved }) here there is_open then_open shown phase ending
-      (record { serial = refl; phase = refl; ending = refl; prefix = omega arith; writes = λ cell. refl; sound = sound_levels terms w p t saved sound nest })
+      (goes_on terms w p t _ refl refl refl refl refl (sound_levels terms w p t saved sound nest))
       stage
 
   entered : Fits terms w p (at t here) (enter_level t)
@@ -120,26 +120,10 @@ module _ (terms : Terms) (w : World) (p : ℕ) (t : Attempt) (here : Stage) (is_
   going shown Undo may = undone t.saved refl may
   going shown (Hook hook token) may =
       open_fits terms w p t (record t { now = record t.now { hooks = t.now.hooks ++ (hook, token) ∷ [] } }) here (Ready None) is_open tt tt phase ending
-      (record {
-        serial = refl;
-        phase = refl;
-        ending = refl;
-        prefix = omega arith;
-        writes = λ cell. refl;
-        sound = sound;
-      })
-      tt
+      (goes_on terms w p t _ refl refl refl refl refl sound) tt
   going shown (Later token) may =
       open_fits terms w p t (record t { now = record t.now { laters = t.now.laters ++ token ∷ [] } }) here (Ready None) is_open tt tt phase ending
-      (record {
-        serial = refl;
-        phase = refl;
-        ending = refl;
-        prefix = omega arith;
-        writes = λ cell. refl;
-        sound = sound;
-      })
-      tt
+      (goes_on terms w p t _ refl refl refl refl refl sound) tt
   going shown Finish may = gone_on terms w p t here is_open phase ending sound
   going shown (Abandon cause) may = rolled_open terms w p t here is_open phase ending sound cause (abandon_shown t shown cause may)
 

@@ -12,7 +12,7 @@ use Rattle.stm_model.specs.Safe.{ClosingPhase, EndingAt, HasBegun, PhaseAt, Safe
 use Rattle.stm_model.specs.World.{Terms, World}
 use Rattle.opacity.proofs.Shown.{Shows, to_shown}
 use Rattle.opacity.proofs.Cells.{AlikeAt}
-use Rattle.opacity.proofs.Fits.{Fits, IsOpen, goes_on_same, open_facts, open_fits, open_fits_with}
+use Rattle.opacity.proofs.Fits.{Fits, IsOpen, goes_on, goes_on_same, open_facts, open_fits, open_fits_with}
 use Rattle.opacity.proofs.Stands.{kept_flying, Follows, Sound, placed}
 
 pub clash : (b : Bool) → b ≡ true → b ≡ false → ⊥
@@ -128,15 +128,7 @@ module _ (terms : Terms) (w : World) (p : ℕ) where
     turned_to [] = concluded t.now.writes refl
     turned_to (token ∷ tokens) =
         open_fits terms w p t (record t { turn = suc t.turn }) here (Late token) is_open tt tt phase ending
-        (record {
-          serial = refl;
-          phase = refl;
-          ending = refl;
-          prefix = omega arith;
-          writes = λ cell. refl;
-          sound = sound;
-        })
-        tt
+        (goes_on terms w p t _ refl refl refl refl refl sound) tt
 
     -- The next before-commit body has its turn, or the end has come.
     pub gone_on : Fits terms w p (at t here) (go_on t)

@@ -1,5 +1,5 @@
 -- Events that change one caller's view alone.
-use Rattle.std.proofs.Common.{IfSome, ◌≡◌, ℕ, ◌≤◌, true, None, Option, List, [], refl, sym, ◌∙◌, arith, inl, subst}
+use Rattle.std.proofs.Common.{IfSome, ◌≡◌, ℕ, ◌≤◌, true, None, Option, List, [], refl, sym, ◌∙◌, arith, inl, subst, ap}
 use Rattle.meta_word.specs.declared.status.Phase.{Phase}
 use Rattle.meta_word.specs.declared.status.Phase.TheVariants.{Active}
 use Rattle.stm_model.specs.declared.ending.Ending.{Ending}
@@ -117,8 +117,19 @@ pub record GoesOn (terms : Terms) (w : World) (p : ℕ) (t u : Attempt) : Type 0
   pub sound : Sound terms w p u
 
 module _ (terms : Terms) (w : World) (p : ℕ) where
+  -- Its number, phase, ending, prefix and writes are the same.
+  pub goes_on : (t u : Attempt) → u.serial ≡ t.serial → u.phase ≡ t.phase → u.ending ≡ t.ending → u.prefix ≡ t.prefix → u.now.writes ≡ t.now.writes → Sound terms w p u → GoesOn terms w p t u
+  goes_on t u serial phase ending prefix writes sound = record {
+    serial = serial;
+    phase = phase;
+    ending = ending;
+    prefix = omega (arith, prefix);
+    writes = λ cell. ap (λ (each : List Write). writes_to each cell) writes;
+    sound = sound;
+  }
+
   pub goes_on_same : (t : Attempt) → Sound terms w p t → GoesOn terms w p t t
-  goes_on_same t sound = record { serial = refl; phase = refl; ending = refl; prefix = omega arith; writes = λ cell. refl; sound = sound }
+  goes_on_same t sound = goes_on t t refl refl refl refl refl sound
 
   alike_open : (t u : Attempt) (here there : Stage) → OpenFacts here → OpenFacts there → ((cell : ℕ) → writes_to u.now.writes cell ≡ writes_to t.now.writes cell) → u.ending ≡ t.ending → u.phase ≡ t.phase
       → (cell : ℕ) → AlikeAt cell (at u there) (at t here)

@@ -19,7 +19,7 @@ use Rattle.stm_model.specs.World.{IsCaller, Terms, View, World, attempt_of, cell
 use Rattle.stm_model.proofs.EvidenceLemmas.{has_moved, is_stale}
 use Rattle.stm_model.proofs.HistoryLemmas.{last_below}
 use Rattle.opacity.proofs.Ends.{stopped_open}
-use Rattle.opacity.proofs.Fits.{Fits, IsOpen, ending_is, goes_on_same, open_facts, open_fits, phase_is, safe_seen, stage_is}
+use Rattle.opacity.proofs.Fits.{Fits, IsOpen, ending_is, goes_on, goes_on_same, open_facts, open_fits, phase_is, safe_seen, stage_is}
 use Rattle.opacity.proofs.Samples.{fetched_now, not_written, noted_now, sampled_all, sampled_more, sampled_start, still_current}
 use Rattle.opacity.proofs.Shown.{all_at, Shows, names_checked}
 use Rattle.opacity.proofs.Stands.{IsPlain, Knows, Sound, sound_at, sound_of}
@@ -200,13 +200,7 @@ module _ (lawful : List ℕ → Type 0) (may : List ℕ → List ℕ → Type 0)
           let current : IsCurrent terms.opening w.history t.prefix note =
           noted_now lawful may terms w safe cell first.version value t.prefix note at_stage.0.in_range none (eqb-true _ _ tests.0) at_stage.2 own.prefix at_stage.3 refl refl refl in
           open_fits terms w p t (record t { notes = t.notes ++ note ∷ [] }) stage (Ready (Some value)) tt tt tt (phase_is terms w p stage own is) (ending_is terms w p stage own is)
-          (record {
-            serial = refl;
-            phase = refl;
-            ending = refl;
-            prefix = omega arith;
-            writes = λ each. refl;
-            sound = noted_sound terms w p t stage tt (phase_is terms w p stage own is) (ending_is terms w p stage own is) sound note current at_stage.0.in_range at_stage.0.unnoted;
-          })
+          (goes_on terms w p t _ refl refl refl refl refl
+          (noted_sound terms w p t stage tt (phase_is terms w p stage own is) (ending_is terms w p stage own is) sound note current at_stage.0.in_range at_stage.0.unnoted))
           tt
       go false moved = again terms w p t stage tt (phase_is terms w p stage own is) (ending_is terms w p stage own is) sound cell left (Moved (addr_of cell) first (w.meta cell)) (has_moved t.own first (w.meta cell) at_stage.1.quiet moved, tt) at_stage.0
