@@ -1,4 +1,4 @@
--- What ghost fields of plain cells rest on.
+-- Private: what ghost fields of plain cells rest on.
 use Rattle.std.proofs.Common.{ℕ, List, length, Option, Some, None, refl}
 use Rattle.std.specs.Prelude.{IfSome}
 use Rattle.std.specs.Coded.{Unit-prop}

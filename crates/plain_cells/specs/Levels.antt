@@ -1,4 +1,4 @@
--- Levels that nest, by how many handlers were registered where each began.
+-- Private: levels that nest, by how many handlers were registered where each began.
 use Rattle.std.specs.Prelude.{ℕ, ◌≤◌, List, [], ◌∷◌, length}
 use Rattle.std.specs.Coded.{×_prop, Unit-prop}
 use Rattle.std.specs.Map.{values_of}

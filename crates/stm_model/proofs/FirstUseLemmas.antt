@@ -14,8 +14,8 @@ use Rattle.stm_model.specs.declared.cause.Cause.{Cause}
 use Rattle.stm_model.specs.declared.cause.Cause.TheVariants.{ReadConflict, Moved, WriteConflict}
 use Rattle.stm_model.specs.declared.note.Note.{Note}
 use Rattle.stm_model.specs.declared.access.Ask.TheVariants.{Get, Set}
-use Rattle.stm_model.specs.Accesses.{Answer, Number, OfMeta, OfStatus, addr_of}
-use Rattle.stm_model.specs.After.{answer_with, acquire_again, acquiring, after, after_at, at, doom_or_again, exchanged, extend_on, extended, is_active, meta_acquired, meta_read, note_of, owner_status_loaded, owner_validated, read_again, stale, stopped, validated, write_refused}
+use Rattle.stm_model.specs.Accesses.{Act, Answer, Number, OfMeta, OfStatus, addr_of, answer_of, next}
+use Rattle.stm_model.specs.After.{answer_with, acquire_again, acquiring, after, after_at, at, doom_or_again, exchanged, extend_on, extended, is_active, meta_acquired, meta_read, note_of, owner_status_loaded, owner_validated, read_again, stale, stopped, validated, write_refused, after_found, after_word}
 use Rattle.stm_model.specs.Attempt.{Attempt, Stage, Ready, Late, Stopped, ReadMeta, ExtendClock, ExtendNote, ReadValue, Validate, AcquireMeta, Acquire, OwnerStatus, OwnerMeta, DoomOwner, cause_at, cells_of}
 use Rattle.stm_model.specs.FirstUse.{AreLast, Reads, ReadsAt, ReadOn, Writes, WritesAt, WriteOn, goes_on, told, refused, done}
 use Rattle.stm_model.specs.Heap.{Agrees, put, writes_to}
@@ -162,6 +162,16 @@ read_at lawful size address t _ answer stands away = absurd stands
 pub read-on : (lawful : List ℕ → Type 0) (size address : ℕ) (t : Attempt) (answer : Answer) → Reads address t
     → ReadOn lawful size address (cells_of size t) (after t answer)
 read-on lawful size address t answer reads = read_at lawful size address t t.stage answer reads.stands reads.away
+
+-- the same after the word that its access found
+read_found : (lawful : List ℕ → Type 0) (size address : ℕ) (t : Attempt) (act : Option Act) (word : ℕ) → Reads address t
+    → ReadOn lawful size address (cells_of size t) (after_found t act word)
+read_found lawful size address t None word reads = goes_on reads refl
+read_found lawful size address t (Some act) word reads = read-on lawful size address t (answer_of act word) reads
+
+pub read-word : (lawful : List ℕ → Type 0) (size address : ℕ) (t : Attempt) (word : ℕ) → Reads address t
+    → ReadOn lawful size address (cells_of size t) (after_word t word)
+read-word lawful size address t word reads = read_found lawful size address t (next t) word reads
 
 -- who is reading wasn't refused
 reads_stopped : (notes : List Note) (address : ℕ) (stage : Stage) (cause : Cause) → ReadsAt notes address stage → stage ≡ Stopped cause → ⊥
@@ -316,6 +326,15 @@ write_at size address word t _ answer is away = absurd is
 pub write-on : (size address word : ℕ) (t : Attempt) (answer : Answer) → Writes address word t
     → WriteOn size address word (cells_of size t) (after t answer)
 write-on size address word t answer writes = write_at size address word t t.stage answer writes.stands writes.unwritten
+
+write_found : (size address value : ℕ) (t : Attempt) (act : Option Act) (word : ℕ) → Writes address value t
+    → WriteOn size address value (cells_of size t) (after_found t act word)
+write_found size address value t None word writes = goes_on writes refl
+write_found size address value t (Some act) word writes = write-on size address value t (answer_of act word) writes
+
+pub write-word : (size address value : ℕ) (t : Attempt) (word : ℕ) → Writes address value t
+    → WriteOn size address value (cells_of size t) (after_word t word)
+write-word size address value t word writes = write_found size address value t (next t) word writes
 
 writes_stopped : (address word : ℕ) (stage : Stage) (cause : Cause) → WritesAt address word stage → stage ≡ Stopped cause → ⊥
 unfolding WritesAt

@@ -12,8 +12,8 @@ use Rattle.stm_model.specs.declared.cause.Cause.TheVariants.{ClockEnd, ClockMove
 use Rattle.stm_model.specs.declared.ending.Ending.{Ending}
 use Rattle.stm_model.specs.declared.ending.Ending.TheVariants.{Committed, Rolled}
 use Rattle.stm_model.specs.declared.note.Note.{Note}
-use Rattle.stm_model.specs.Accesses.{Answer, Number, OfMeta, OfStatus, active}
-use Rattle.stm_model.specs.After.{after, after_at, at, decided, final_runs, mark_on, note_validated, prepared, release_level_on, release_on, ring_if, roll_on, rolled, run_all, stale, store_on, validate_on}
+use Rattle.stm_model.specs.Accesses.{Act, Answer, Number, OfMeta, OfStatus, active, answer_of, next, next_at, unless_due}
+use Rattle.stm_model.specs.After.{after, after_at, at, decided, final_runs, mark_on, note_validated, prepared, release_level_on, release_on, ring_if, roll_on, rolled, run_all, stale, store_on, validate_on, after_found, after_word}
 use Rattle.stm_model.specs.Attempt.{Attempt, Due, Run, Ring, Stage, Write, Ready, Late, Stopped, ReleaseLevel, Prepare, Mark, CommitClock, CommitNote, Decide, StoreValues, Release, RollBack, Close, Ended, cause_at, cells_of, has_prepared}
 use Rattle.stm_model.specs.CellsState.{Book, CellsState, level_runs, restored, returned, undone}
 use Rattle.stm_model.specs.Handlers.{Handlers, after_commit, committing, failing, preparing, undoing}
@@ -221,6 +221,17 @@ ends-access former hooks begun t answer ends none =
     subst (λ (h : Handlers). Ends former h (begun || has_prepared (after t answer).phase) (after t answer)) ends.registered
     (ends_at former begun t t.stage answer none ends.stands ends.phase ran)
 
+-- the same after the word that its access found, if it makes one
+ends_found : (former hooks : Handlers) (begun : Bool) (t : Attempt) (dues : List Due) (act : Option Act) (word : ℕ) → t.due ≡ dues → Ends former hooks begun t
+    → (let next : Attempt = after_found t (unless_due dues act) word in Ends former hooks (begun || has_prepared next.phase) next)
+ends_found former hooks begun t [] None word is ends = ends-flagged former hooks begun t ends
+ends_found former hooks begun t [] (Some act) word is ends = ends-access former hooks begun t (answer_of act word) ends is
+ends_found former hooks begun t (due ∷ dues) act word is ends = ends-flagged former hooks begun t ends
+
+pub ends-word : (former hooks : Handlers) (begun : Bool) (t : Attempt) (word : ℕ) → Ends former hooks begun t
+    → Ends former hooks (begun || has_prepared (after_word t word).phase) (after_word t word)
+ends-word former hooks begun t word ends = ends_found former hooks begun t t.due (next_at t t.stage) word refl ends
+
 -- doing what is due changes neither the stage nor what is registered
 does_at : (former hooks : Handlers) (begun : Bool) (t : Attempt) (dues : List Due) → Ends former hooks begun (record t { due = dues })
     → Ends former hooks begun (did_first (record t { due = dues }) dues)
@@ -408,6 +419,13 @@ module _ (size : ℕ) (before : CellsState) where
   undoes-access t answer (runs_left is then) =
       subst (λ stage. Undoes size before (after_at (at t stage) stage answer)) (sym is)
       (undo-told t answer (subst (λ stage. cells_then size (at t stage) ≡ undone before) is then))
+
+  undoes-act : (t : Attempt) (act : Option Act) (word : ℕ) → Undoes size before t → Undoes size before (after_found t act word)
+  undoes-act t None word undoes = undoes
+  undoes-act t (Some act) word undoes = undoes-access t (answer_of act word) undoes
+
+  pub undoes-word : (t : Attempt) (word : ℕ) → Undoes size before t → Undoes size before (after_word t word)
+  undoes-word t word undoes = undoes-act t (next t) word undoes
 
   undoes-did : (t : Attempt) (dues : List Due) → Undoes size before (record t { due = dues }) → Undoes size before (did_first (record t { due = dues }) dues)
   undoes-did t [] undoes = undoes

@@ -10,7 +10,7 @@ ghost use Rattle.stm_model.specs.declared.cause.Cause.{Cause};
 ghost use Rattle.stm_model.specs.declared.cause.HookPhase.{HookPhase};
 ghost use Rattle.stm_model.specs.declared.access.Ask.{Ask};
 ghost use Rattle.stm_model.specs.Accesses.{Answer, addr_of, next};
-ghost use Rattle.stm_model.specs.After.{after, answer_with, release_level_on, validated, note_of, exchanged, ring_if, rolled, run_all};
+ghost use Rattle.stm_model.specs.After.{after, after_word, answer_with, release_level_on, validated, note_of, exchanged, ring_if, rolled, run_all};
 ghost use Rattle.stm_model.specs.Attempt.{Attempt, Ended, Ready, Stopped, cause_at, cells_of, has_prepared};
 ghost use Rattle.stm_model.specs.CellsState.{Book, CellsState, empty_book, late_registered, entered, hooked, kept, undone, written};
 ghost use Rattle.stm_model.specs.FirstUse.{ReadOn, Reads, WriteOn, Writes};
@@ -79,6 +79,8 @@ pub fn a_first_read_tells_the_value_or_is_refused<L: Law>()
         cells_of size (moved t (Takes (Get cell))) ≡ cells_of size t }
     ensures access { (law : L) (size address : ℕ) (t : Attempt) (answer : Answer) → Reads address t →
         ReadOn (L.lawful law) size address (cells_of size t) (after t answer) }
+    ensures word { (law : L) (size address : ℕ) (t : Attempt) (word : ℕ) → Reads address t →
+        ReadOn (L.lawful law) size address (cells_of size t) (after_word t word) }
     ensures refused { (size address : ℕ) (t : Attempt) (answer : Answer) (cause : Cause) → Reads address t →
         (after t answer).stage ≡ Stopped cause →
         Refused (RefusesRead (cells_of size t) address) cause (cells_of size t) (cells_of size (after t answer)) }
@@ -93,6 +95,8 @@ pub fn a_first_write_is_done_or_refused()
         IsFalse (writes_to t.now.writes cell.0) → cells_of size (moved t (Takes (Set cell value))) ≡ cells_of size t }
     ensures access { (size address value : ℕ) (t : Attempt) (answer : Answer) → Writes address value t →
         WriteOn size address value (cells_of size t) (after t answer) }
+    ensures word { (size address value : ℕ) (t : Attempt) (word : ℕ) → Writes address value t →
+        WriteOn size address value (cells_of size t) (after_word t word) }
     ensures refused { (size address value : ℕ) (t : Attempt) (answer : Answer) (cause : Cause) → Writes address value t →
         (after t answer).stage ≡ Stopped cause →
         Refused (RefusesWrite (cells_of size t) address) cause (cells_of size t) (cells_of size (after t answer)) }
@@ -121,6 +125,8 @@ pub fn handlers_run_in_order()
         Ends t.now.runs t.now.hooks false (rolled t cause) }
     ensures access { (former hooks : Handlers) (prepared : Bool) (t : Attempt) (answer : Answer) → Ends former hooks prepared t →
         t.due ≡ [] → Ends former hooks (prepared || has_prepared (after t answer).phase) (after t answer) }
+    ensures word { (former hooks : Handlers) (prepared : Bool) (t : Attempt) (word : ℕ) → Ends former hooks prepared t →
+        Ends former hooks (prepared || has_prepared (after_word t word).phase) (after_word t word) }
     ensures does { (former hooks : Handlers) (prepared : Bool) (t : Attempt) → Ends former hooks prepared t →
         Ends former hooks prepared (moved t Does) }
     ensures over { (former hooks : Handlers) (prepared : Bool) (t : Attempt) → Ends former hooks prepared t → t.stage ≡ Ended → t.due ≡ [] →
@@ -142,6 +148,8 @@ pub fn a_level_is_undone_in_order()
         Undoes size (cells_of size t) (moved t (Takes Undo)) }
     ensures access { (size : ℕ) (before : CellsState) (t : Attempt) (answer : Answer) → Undoes size before t →
         Undoes size before (after t answer) }
+    ensures word { (size : ℕ) (before : CellsState) (t : Attempt) (word : ℕ) → Undoes size before t →
+        Undoes size before (after_word t word) }
     ensures does { (size : ℕ) (before : CellsState) (t : Attempt) → Undoes size before t → Undoes size before (moved t Does) }
     ensures over { (size : ℕ) (before : CellsState) (t : Attempt) → Undoes size before t → AwaitsAsk t →
         cells_of size t ≡ undone before }

@@ -1,4 +1,4 @@
-use Rattle.stm_model.proofs.FirstUseLemmas.{read-begins, read-begins-same, read-on, read-refused}
+use Rattle.stm_model.proofs.FirstUseLemmas.{read-word, read-begins, read-begins-same, read-on, read-refused}
 use Rattle.stm_model.proofs.attempt_laws.a_first_read_tells_the_value_or_is_refused.Goals as goal
 
 pub returns-clause-begins : goal.returns-clause-begins
@@ -12,3 +12,6 @@ returns-clause-access g c = λ law size address t answer reads. read-on (g.L.Law
 
 pub returns-clause-refused : goal.returns-clause-refused
 returns-clause-refused g c = read-refused
+
+pub returns-clause-word : goal.returns-clause-word
+returns-clause-word g c = λ law size address t word reads. read-word (g.L.Law.lawful law) size address t word reads

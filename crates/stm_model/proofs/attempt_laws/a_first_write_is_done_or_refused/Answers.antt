@@ -1,4 +1,4 @@
-use Rattle.stm_model.proofs.FirstUseLemmas.{write-begins, write-begins-same, write-on, write-refused}
+use Rattle.stm_model.proofs.FirstUseLemmas.{write-word, write-begins, write-begins-same, write-on, write-refused}
 use Rattle.stm_model.proofs.attempt_laws.a_first_write_is_done_or_refused.Goals as goal
 
 pub returns-clause-begins : goal.returns-clause-begins
@@ -12,3 +12,6 @@ returns-clause-access c = write-on
 
 pub returns-clause-refused : goal.returns-clause-refused
 returns-clause-refused c = write-refused
+
+pub returns-clause-word : goal.returns-clause-word
+returns-clause-word c = write-word

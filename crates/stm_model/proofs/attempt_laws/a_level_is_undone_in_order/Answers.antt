@@ -1,4 +1,4 @@
-use Rattle.stm_model.proofs.HandlerRunsLemmas.{undoes-access, undoes-begins, undoes-does, undoes-over, undone-whole}
+use Rattle.stm_model.proofs.HandlerRunsLemmas.{undoes-word, undoes-access, undoes-begins, undoes-does, undoes-over, undone-whole}
 use Rattle.stm_model.proofs.attempt_laws.a_level_is_undone_in_order.Goals as goal
 
 pub returns-clause-begins : goal.returns-clause-begins
@@ -15,3 +15,6 @@ returns-clause-over c = undoes-over
 
 pub returns-clause-whole : goal.returns-clause-whole
 returns-clause-whole c = undone-whole
+
+pub returns-clause-word : goal.returns-clause-word
+returns-clause-word c = undoes-word

@@ -1,4 +1,4 @@
-use Rattle.stm_model.proofs.HandlerRunsLemmas.{concluded-whole, ends-access, ends-concluded, ends-does, ends-over, ends-rolled, rolled-whole}
+use Rattle.stm_model.proofs.HandlerRunsLemmas.{ends-word, concluded-whole, ends-access, ends-concluded, ends-does, ends-over, ends-rolled, rolled-whole}
 use Rattle.stm_model.proofs.attempt_laws.handlers_run_in_order.Goals as goal
 
 pub returns-clause-concluded : goal.returns-clause-concluded
@@ -21,3 +21,6 @@ returns-clause-whole c = concluded-whole
 
 pub returns-clause-whole_rolled_back : goal.returns-clause-whole_rolled_back
 returns-clause-whole_rolled_back c = rolled-whole
+
+pub returns-clause-word : goal.returns-clause-word
+returns-clause-word c = ends-word
