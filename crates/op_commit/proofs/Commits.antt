@@ -19,20 +19,20 @@ pub whatever-due : (op : CommitOp) (rung : Option Addr) (t : Attempt) (dues : Li
 whatever-due op rung t dues commits = record { own = commits.own; serial = commits.serial; tries = commits.tries; limit = commits.limit; writes = commits.writes }
 
 module _ (t : Attempt) (nothing : t.due ≡ []) where
-  pub takes-status : (word : ℕ) → after_word (at t Prepare) word ≡ prepared t (status_of word)
+  pub prepares : (word : ℕ) → after_word (at t Prepare) word ≡ prepared t (status_of word)
   unfolding next_at after_at answer_of prepared
-  takes-status word = rw nothing refl
+  prepares word = rw nothing refl
 
-  pub takes-clock : (lost word writes : ℕ) (dues : List Due) → dues ≡ [] →
+  pub loads-clock : (lost word writes : ℕ) (dues : List Due) → dues ≡ [] →
       after_word (at (in_preparation t) (CommitClock lost)) word ≡ validate_on (in_preparation (record t { due = dues })) lost word (drop (writes - writes) t.notes)
   unfolding next_at after_at answer_of validate_on
-  takes-clock lost word writes dues none =
+  loads-clock lost word writes dues none =
       let all : writes - writes ≡ 0 = omega arith in
       rw (nothing, none, all) refl
 
-  pub takes-decision : (lost clock word : ℕ) → after_word (at (in_preparation t) (Decide lost clock)) word ≡ decided (in_preparation t) lost clock word
+  pub decides : (lost clock word : ℕ) → after_word (at (in_preparation t) (Decide lost clock)) word ≡ decided (in_preparation t) lost clock word
   unfolding next_at after_at answer_of decided
-  takes-decision lost clock word = rw nothing refl
+  decides lost clock word = rw nothing refl
 
 -- at a buffered cell
 module _ (t : Attempt) (nothing : t.due ≡ []) (index : ℕ) (write : Write) (here : drop index t.now.writes ≡ write ∷ drop (index + 1) t.now.writes) where
@@ -65,15 +65,15 @@ module _ (t : Attempt) (nothing : t.due ≡ []) (index : ℕ) (write : Write) (h
 
 -- at a note of what was read
 module _ (t : Attempt) (nothing : t.due ≡ []) (lost clock index writes : ℕ) (note : Note) (here : drop (index - writes) t.notes ≡ note ∷ drop (index + 1 - writes) t.notes) where
-  pub looks-at : next_access (validate_on (in_preparation t) lost clock (drop (index - writes) t.notes)) ≡ Some (Load (MetaOf note.addr))
+  pub loads-note : next_access (validate_on (in_preparation t) lost clock (drop (index - writes) t.notes)) ≡ Some (Load (MetaOf note.addr))
   unfolding next_at access_of validate_on
-  looks-at = rw here (rw nothing refl)
+  loads-note = rw here (rw nothing refl)
 
-  pub goes-checking : (word : ℕ) (dues : List Due) → dues ≡ [] → still_has t.own note.version (meta_of word) ≡ true →
+  pub validates : (word : ℕ) (dues : List Due) → dues ≡ [] → still_has t.own note.version (meta_of word) ≡ true →
       after_word (validate_on (in_preparation t) lost clock (drop (index - writes) t.notes)) word
       ≡ validate_on (in_preparation (record t { due = dues })) lost clock (drop (index + 1 - writes) t.notes)
   unfolding next_at after_at answer_of validate_on note_validated
-  goes-checking word dues none still = rw here (rw (nothing, none, still) refl)
+  validates word dues none still = rw here (rw (nothing, none, still) refl)
 
   pub ends-stale : (word : ℕ) → still_has t.own note.version (meta_of word) ≡ false →
       after_word (validate_on (in_preparation t) lost clock (drop (index - writes) t.notes)) word

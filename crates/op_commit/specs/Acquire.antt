@@ -1,23 +1,18 @@
 -- The first write of a cell as a part of an attempt.
-use Rattle.std.specs.Prelude.{◌≡◌, ◌≢◌, IsTrue, IsFalse, ℕ, ◌+◌, ◌-◌, ◌*◌, ◌^◌, ◌<◌, ◌≤◌, true, Bool, if◌then◌else◌, Option, Some, None}
-use Rattle.meta_word.specs.Meta.{MetaFits, meta_of, owned_by_another}
+use Rattle.std.specs.Prelude.{◌≡◌, ℕ, ◌+◌, ◌-◌, ◌*◌, ◌^◌, ◌<◌, ◌≤◌, true, Bool, Option, Some, None}
+use Rattle.meta_word.specs.Meta.{MetaFits}
 use Rattle.meta_word.specs.Policy.{looks}
 use Rattle.meta_word.specs.Status.{StatusFits}
-use Rattle.meta_word.specs.declared.meta.Meta.{Meta}
 use Rattle.meta_word.specs.declared.meta.TheConstants.{MAX_OWNER}
 use Rattle.op_commit.specs.declared.acquire.AcquireEnd.{AcquireEnd}
 use Rattle.op_commit.specs.declared.acquire.AcquireEnd.TheVariants.{Bad, Owned}
 use Rattle.op_commit.specs.declared.acquire.AcquireOp.{AcquireOp}
 use Rattle.op_commit.specs.declared.acquire.AcquirePlace.{AcquirePlace}
 use Rattle.op_commit.specs.declared.acquire.AcquirePlace.TheVariants as at_acquire
-use Rattle.stm_model.specs.declared.cause.Cause.{Cause}
-use Rattle.stm_model.specs.declared.cause.Cause.TheVariants.{Moved, Stale, WriteConflict}
 use Rattle.stm_model.specs.declared.note.Note.{Note}
-use Rattle.stm_model.specs.After.{at, done, note_of, stopped, acquire_again, doom_or_again}
+use Rattle.stm_model.specs.After.{at, done, note_of, stopped}
 use Rattle.stm_model.specs.Attempt.{AcquireMeta, Attempt, DoomOwner, Acquire, OwnerMeta, OwnerStatus}
-use Rattle.stm_model.specs.Evidence.{HasMoved, IsEvident}
 use Rattle.stm_model.specs.Heap.{put}
-use Rattle.stm_model.specs.Safe.{IsFree}
 
 -- how many rounds may follow this one
 abbrev pub rounds_left : AcquireOp → ℕ
@@ -61,7 +56,7 @@ WordFits (at_acquire.OwnerMeta first status) = StatusFits status
 WordFits (at_acquire.DoomOwner first second status) = StatusFits status
 WordFits _ = Unit {0}
 
--- A doom counts as tried from the look at the owner on.
+-- A doom counts as tried from the load of the owner's status on.
 abbrev pub IsCounted : AcquirePlace → (tried : Bool) → Type 0
 IsCounted (at_acquire.OwnerStatus first) tried = tried ≡ true
 IsCounted (at_acquire.OwnerMeta first status) tried = tried ≡ true
@@ -83,13 +78,6 @@ end_at _ = None
 abbrev pub end_of_acquire : AcquireOp → Option AcquireEnd
 end_of_acquire op = end_at op.place
 
--- Somebody owns the cell: another, or the caller itself.
-abbrev pub met : Attempt → (cell value left : ℕ) → (tried : Bool) → Meta → Attempt
-met t cell value left tried first =
-    if owned_by_another t.own first
-    then doom_or_again t cell value left tried first
-    else acquire_again t cell value left tried first first
-
 -- how many accesses may follow, with so many rounds behind this one
 abbrev pub left_at : AcquirePlace → ℕ → ℕ
 left_at at_acquire.AcquireMeta left = 4 * left + 4
@@ -102,56 +90,3 @@ left_at (at_acquire.Ended end) left = 0
 
 abbrev pub accesses_left : AcquireOp → ℕ
 accesses_left op = left_at op.place (rounds_left op)
-
--- ---- what a refusal shows
-
--- The cell was noted at another version than it has, or another owns it, or no other caller owns it any more and the rounds are over.
-abbrev pub RefusalShows : AcquireOp → Cause → Type 0
-RefusalShows op (Stale addr version meta) = (addr ≡ op.addr) × (op.noted ≡ Some version) × (meta.version ≢ version)
-RefusalShows op (WriteConflict addr meta) = (addr ≡ op.addr) × IsTrue (owned_by_another op.own meta)
-RefusalShows op (Moved addr first second) = (addr ≡ op.addr) × IsFalse (owned_by_another op.own second)
-RefusalShows op _ = ⊥
-
--- Where the first write ended badly, the words of its cause show this.
-abbrev pub EndShows : AcquireOp → AcquireEnd → Type 0
-EndShows op (Owned meta) = Unit {0}
-EndShows op (Bad cause) = RefusalShows op cause
-
--- ---- what a refusal shows in a safe world
-
--- The word of a cell that the caller hasn't written: the caller isn't its owner, and where nobody is, it isn't changing.
-pub record IsOfSafeCell (own : ℕ) (found : Meta) : Type 0 where
-  pub other : found.owner ≢ own
-  pub quiet : found.owner ≡ 0 → IsFalse found.changing
-
--- As long as a cell has its version, it keeps its pending bit.
-abbrev pub KeepsPending : (expected found : Meta) → Type 0
-KeepsPending expected found = expected.version ≡ found.version → IsTrue expected.pending → IsTrue found.pending
-
--- The access finds a word of a safe world. A status word may be any.
-abbrev pub IsOfSafeWorld : AcquirePlace → (own answer : ℕ) → Type 0
-IsOfSafeWorld at_acquire.AcquireMeta own answer = IsOfSafeCell own (meta_of answer)
-IsOfSafeWorld (at_acquire.Acquire first expected again) own answer = IsOfSafeCell own (meta_of answer) × KeepsPending expected (meta_of answer)
-IsOfSafeWorld (at_acquire.OwnerMeta first status) own answer = IsOfSafeCell own (meta_of answer)
-IsOfSafeWorld place own answer = Unit {0}
-
--- What it knows by the words that it found there: the word that it exchanges is nobody's, and the owner that it looks at is another.
-abbrev pub KnowsAt : AcquirePlace → (own : ℕ) → Type 0
-KnowsAt (at_acquire.Acquire first expected again) own = IsFree first expected again
-KnowsAt (at_acquire.OwnerStatus first) own = IsTrue (owned_by_another own first)
-KnowsAt (at_acquire.OwnerMeta first status) own = IsTrue (owned_by_another own first)
-KnowsAt (at_acquire.DoomOwner first second status) own = IsTrue (owned_by_another own first) × IsTrue (owned_by_another own second)
-KnowsAt place own = Unit {0}
-
--- The words that a first write keeps are those of a safe world: the one that it exchanges is nobody's, an owner that it looks at is another.
-abbrev pub KnowsSafe : AcquireOp → Type 0
-KnowsSafe op = KnowsAt op.place op.own
-
--- Where no other caller owns the cell at the latest look, it has moved since the first.
-abbrev pub IsOwnedOrMoved : (own : ℕ) → (first latest : Meta) → Type 0
-IsOwnedOrMoved own first latest = IsFalse (owned_by_another own latest) → HasMoved own first latest
-
--- Where the first write ended badly, the words of its cause are its evidence, whatever the settings are.
-abbrev pub EndHasEvidence : (own : ℕ) → AcquireEnd → Type 0
-EndHasEvidence own (Owned meta) = Unit {0}
-EndHasEvidence own (Bad cause) = IsEvident own cause

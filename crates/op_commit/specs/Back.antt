@@ -1,5 +1,5 @@
--- The way back of an attempt: a level is undone, or the attempt is rolled back, or it ends and has written nothing.
-use Rattle.std.specs.Prelude.{◌≡◌, ℕ, ◌+◌, ◌-◌, ◌<◌, ◌≤◌, Bool, true, false, if◌then◌else◌, List, [], ◌++◌, length, take, drop, Option, Some, None}
+-- The release of a level, or the rollback of an attempt, or its end where it has written nothing.
+use Rattle.std.specs.Prelude.{◌≡◌, ℕ, ◌+◌, ◌-◌, ◌<◌, ◌≤◌, Bool, true, false, if◌then◌else◌, List, [], ◌∷◌, ◌++◌, length, drop, Option, Some, None}
 use Rattle.meta_word.specs.declared.status.Phase.TheVariants.{Idle}
 use Rattle.meta_word.specs.declared.status.TheConstants.{MAX_SERIAL}
 use Rattle.op_commit.specs.declared.back.BackEnd.{BackEnd}
@@ -10,17 +10,23 @@ use Rattle.op_commit.specs.Buffered.{ring_for}
 use Rattle.stm_model.specs.declared.cause.Addr.{Addr}
 use Rattle.stm_model.specs.declared.note.Note.{Note}
 use Rattle.stm_model.specs.After.{at, final_runs, release_level_on, roll_on, run_all}
-use Rattle.stm_model.specs.Attempt.{Attempt, Due, Ended}
+use Rattle.stm_model.specs.Attempt.{Attempt, Due, Ended, Write}
+use Rattle.stm_model.specs.CellsState.{Book}
 
-abbrev pub backing_at : BackPlace → (first : ℕ) → (whole : Bool) → Attempt → Attempt
-backing_at (at_back.Cell index) first true t = roll_on t (drop index t.now.writes)
-backing_at (at_back.Cell index) first false t = release_level_on t (take first t.now.writes) (drop index t.now.writes)
-backing_at (at_back.Ended end) first true t = at (record t { phase = Idle }) Ended
-backing_at (at_back.Ended end) first false t = release_level_on t (take first t.now.writes) []
+-- the writes as they were where the innermost open level began
+abbrev pub former_writes : List Book → List Write
+former_writes [] = []
+former_writes (former ∷ books) = former.writes
 
--- the attempt that this one is while the way back stands so
+abbrev pub backing_at : BackPlace → (whole : Bool) → Attempt → Attempt
+backing_at (at_back.Cell index) true t = roll_on t (drop index t.now.writes)
+backing_at (at_back.Cell index) false t = release_level_on t (former_writes t.saved) (drop index t.now.writes)
+backing_at (at_back.Ended end) true t = at (record t { phase = Idle }) Ended
+backing_at (at_back.Ended end) false t = release_level_on t (former_writes t.saved) []
+
+-- the attempt that this one is while it stands so
 abbrev pub backing : BackOp → Attempt → Attempt
-backing op = backing_at op.place op.first op.whole
+backing op = backing_at op.place op.whole
 
 abbrev pub due_at : BackPlace → (whole : Bool) → Option Addr → Attempt → List Due
 due_at (at_back.Ended end) true rung t = ring_for rung ++ run_all (final_runs t.ending t.now.hooks)
@@ -30,7 +36,7 @@ due_at place whole rung t = ring_for rung
 abbrev pub due_by : BackOp → Attempt → List Due
 due_by op t = due_at op.place op.whole op.rung t
 
--- The way back is made for this attempt.
+-- It is made for this attempt.
 pub record IsBacking (op : BackOp) (t : Attempt) : Type 0 where
   pub own : t.own ≡ op.own
   pub serial : t.serial ≡ op.serial

@@ -1,12 +1,9 @@
 -- The commit of what an attempt has written.
-use Rattle.std.specs.Prelude.{◌≡◌, ◌≢◌, IsFalse, ℕ, ◌+◌, ◌-◌, ◌*◌, ◌<◌, ◌≤◌, ◌⊎◌, List, ◌++◌, length, drop, Option, Some, None, unwrap_or}
-use Rattle.meta_word.specs.Meta.{still_has}
-use Rattle.meta_word.specs.Status.{status_of, same_status}
+use Rattle.std.specs.Prelude.{◌≡◌, ℕ, ◌+◌, ◌-◌, ◌*◌, ◌<◌, ◌≤◌, List, ◌++◌, length, drop, Option, Some, None, unwrap_or}
 use Rattle.meta_word.specs.declared.meta.TheConstants.{MAX_VERSION}
 use Rattle.meta_word.specs.declared.status.Phase.{Phase}
-use Rattle.meta_word.specs.declared.status.Phase.TheVariants.{Active, Doomed as IsDoomed, Idle, Preparing}
+use Rattle.meta_word.specs.declared.status.Phase.TheVariants.{Idle, Preparing}
 use Rattle.meta_word.specs.declared.status.TheConstants.{MAX_SERIAL}
-use Rattle.meta_word.specs.declared.status.TxnStatus.{TxnStatus}
 use Rattle.op_commit.specs.declared.commit.CommitEnd.{CommitEnd}
 use Rattle.op_commit.specs.declared.commit.CommitEnd.TheVariants.{Bad, Decided, Prepared, Stamp}
 use Rattle.op_commit.specs.declared.commit.CommitOp.{CommitOp}
@@ -15,14 +12,11 @@ use Rattle.op_commit.specs.declared.commit.CommitPlace.TheVariants as at_commit
 use Rattle.op_commit.specs.Buffered.{buffered, ring_for}
 use Rattle.stm_model.specs.declared.cause.Addr.{Addr}
 use Rattle.stm_model.specs.declared.cause.Cause.{Cause}
-use Rattle.stm_model.specs.declared.cause.Cause.TheVariants.{ClockEnd, ClockMoved, Doomed, Stale}
+use Rattle.stm_model.specs.declared.cause.Cause.TheVariants.{Doomed}
 use Rattle.stm_model.specs.declared.ending.Ending.TheVariants.{Committed}
 use Rattle.stm_model.specs.declared.note.Note.{Note}
-use Rattle.stm_model.specs.declared.settings.Settings.{Settings}
-use Rattle.stm_model.specs.Accesses.{active}
 use Rattle.stm_model.specs.After.{at, validate_on, mark_on, release_on, rolled, run_all, store_on}
 use Rattle.stm_model.specs.Attempt.{Attempt, Close, Decide, Due, Ended, Prepare, CommitClock}
-use Rattle.stm_model.specs.Evidence.{Evidence}
 use Rattle.stm_model.specs.Handlers.{after_commit, committing as runs_at_decision, preparing as runs_before}
 
 -- the notes that a commit goes along: the buffered cells, and then what was read
@@ -123,7 +117,7 @@ end_of_commit op = end_at op.place
 
 -- ---- how many accesses may follow, over so many notes
 
--- of so many rounds that each load the clock, check the reads and try for the clock
+-- of so many rounds that each load the clock, validate the notes and try for the clock
 abbrev pub rounds : (count writes reads : ℕ) → ℕ
 rounds count writes reads = count * (reads + 2) + (2 * writes + 1)
 
@@ -142,36 +136,3 @@ left_at (at_commit.Ended end) writes tries reads = 0
 
 abbrev pub accesses_left : CommitOp → (reads : ℕ) → ℕ
 accesses_left op = left_at op.place op.writes op.tries
-
--- ---- what a failed commit shows
-
--- The own status was another one than that of an active attempt; a noted cell no longer stands as it was noted; the clock was at its limit; the clock was found at another value than it was loaded.
-abbrev pub FailureShows : CommitOp → Cause → Type 0
-FailureShows op (Doomed status) = IsFalse (same_status status (active op.serial))
-FailureShows op (Stale addr version meta) = IsFalse (still_has op.own version meta)
-FailureShows op (ClockEnd clock) = clock ≡ op.limit
-FailureShows op (ClockMoved first second) = first ≢ second
-FailureShows op _ = ⊥
-
--- Where the commit stands at a bad end, the words of its cause show this.
-abbrev pub PlaceShows : CommitOp → CommitPlace → Type 0
-PlaceShows op (at_commit.Ended (Bad cause prefix)) = FailureShows op cause
-PlaceShows op place = Unit {0}
-
--- ---- what a failed commit shows in a safe world
-
--- The status of the caller's own attempt, which hasn't begun to prepare.
-pub record IsOfOwnAttempt (serial : ℕ) (found : TxnStatus) : Type 0 where
-  pub number : found.serial ≡ serial
-  pub phase : (found.phase ≡ Active) ⊎ (found.phase ≡ IsDoomed)
-
--- The access finds a word of a safe world: its own status, or a clock that has only risen. Other words may be any.
-abbrev pub IsOfSafeWorld : CommitPlace → (serial answer : ℕ) → Type 0
-IsOfSafeWorld at_commit.Prepare serial answer = IsOfOwnAttempt serial (status_of answer)
-IsOfSafeWorld (at_commit.Decide lost clock) serial answer = clock ≤ answer
-IsOfSafeWorld place serial answer = Unit {0}
-
--- Where the commit stands at a bad end, the words of its cause are its evidence, for all settings with its limit of the clock.
-abbrev pub PlaceHasEvidence : CommitOp → CommitPlace → Type 0
-PlaceHasEvidence op (at_commit.Ended (Bad cause prefix)) = (settings : Settings) → settings.clock ≡ op.limit → Evidence op.own settings cause
-PlaceHasEvidence op place = Unit {0}

@@ -1,7 +1,9 @@
 pub mod Acquire
+pub mod AcquireParts
 pub mod Back
 pub mod Buffered
 pub mod Commit
+pub mod CommitParts
 pub mod Free
 pub mod Register
 pub mod Waits

@@ -4,7 +4,7 @@ use Rattle.op_commit.specs.declared.register.RegisterOp.{RegisterOp}
 use Rattle.op_commit.specs.declared.register.RegisterPlace.{RegisterPlace}
 use Rattle.op_commit.specs.declared.register.RegisterPlace.TheVariants as at_register
 use Rattle.op_commit.specs.declared.register.WatchEnd.{WatchEnd}
-use Rattle.op_commit.specs.declared.register.WatchEnd.TheVariants.{Changed, Watching as ToWatching}
+use Rattle.op_commit.specs.declared.register.WatchEnd.TheVariants as found
 use Rattle.stm_model.specs.declared.note.Note.{Note}
 use Rattle.stm_model.specs.Waiting.{SawChange, Waiting, Watching, watch}
 
@@ -27,8 +27,8 @@ IsAlong op = IsAlongAt op.place
 
 abbrev pub end_at : RegisterPlace → Option WatchEnd
 end_at (at_register.Note index) = None
-end_at at_register.Watching = Some ToWatching
-end_at (at_register.Changed note meta) = Some (Changed note.addr note.version meta)
+end_at at_register.Watching = Some found.Watching
+end_at (at_register.Changed note meta) = Some (found.Changed note.addr note.version meta)
 
 abbrev pub end_of_register : RegisterOp → Option WatchEnd
 end_of_register op = end_at op.place

@@ -1,6 +1,6 @@
-//! The first write of a cell: a look at its metadata and an exchange that makes the caller its owner.
-//! Where another owns the cell, that one may be doomed, once. It is made anew as often as the policy
-//! grants looks.
+//! The first write of a cell: its meta word is loaded, and a compare-exchange makes the caller its owner.
+//! Where another owns the cell, that one may be doomed, once. A round that is lost is followed by another,
+//! as often as the policy grants one.
 ghost use Rattle.std.specs.Prelude.{◌≡◌, ◌<◌, ◌≤◌, ◌+◌, ◌*◌, ◌^◌, [], ℕ, false, IfSome, IsNone, IsSome, IsTrue, None, Some};
 ghost use Rattle.meta_word.specs.Meta.{MetaFits, meta_word, owned_by_another};
 ghost use Rattle.meta_word.specs.Policy.{looks};
@@ -11,9 +11,8 @@ ghost use Rattle.stm_model.specs.declared.access.Access.TheVariants.{Exchange};
 ghost use Rattle.stm_model.specs.Accesses.{meta_of_cell, next_access, owned};
 ghost use Rattle.stm_model.specs.After.{meta_acquired, after_word, at, note_of, owner_status_loaded, owner_validated, exchanged, acquire_again, write_refused};
 ghost use Rattle.stm_model.specs.Attempt.{AcquireMeta, Attempt};
-ghost use Rattle.stm_model.specs.Evidence.{IsEvident};
-ghost use Rattle.stm_model.specs.Safe.{IsFree};
-ghost use Rattle.op_commit.specs.Acquire.{EndHasEvidence, EndShows, IsAcquiring, IsOfSafeCell, IsOfSafeWorld, IsOwnedOrMoved, IsWithin, KeepsPending, KnowsSafe, RefusalShows, accesses_left, acquiring, end_of_acquire, met, rounds_left, version_in};
+ghost use Rattle.op_commit.specs.Acquire.{IsAcquiring, IsWithin, accesses_left, acquiring, end_of_acquire, rounds_left, version_in};
+ghost use Rattle.op_commit.specs.AcquireParts.{IsUnowned, Keeps, met};
 ghost use Rattle.op_commit.specs.declared.acquire.AcquireEnd.TheVariants.{Owned};
 ghost use Rattle.op_commit.specs.declared.acquire.AcquirePlace.TheVariants as at_acquire;
 
@@ -29,17 +28,17 @@ pub enum AcquireEnd {
     Bad(Cause),
 }
 
-/// Where a first write stands. The first look of the round showed `first`.
-#[derive(Clone, Copy, Debug, PartialEq, Eq)]
+/// Where a first write stands. The round began with the meta word `first`.
+#[derive(Clone, Copy)]
 pub enum AcquirePlace {
     AcquireMeta,
-    /// It exchanges the word that it expects, again where the pending bit alone came between.
+    /// It exchanges the word that it expects, again where the pending bit alone was set since.
     Acquire {
         first: Meta,
         expected: Meta,
         again: bool,
     },
-    /// It looks whether the owner can be doomed.
+    /// It loads the owner's status, to see whether that one can be doomed.
     OwnerStatus {
         first: Meta,
     },
@@ -56,7 +55,7 @@ pub enum AcquirePlace {
 }
 
 /// The first write of a cell.
-#[derive(Clone, Copy, Debug, PartialEq, Eq)]
+#[derive(Clone, Copy)]
 pub struct AcquireOp {
     pub addr: Addr,
     /// The number of the caller that writes.
@@ -80,7 +79,6 @@ impl AcquireOp {
         ensures going { end_of_acquire result ≡ None }
         ensures for_attempt { (t : Attempt) → t.own ≡ own → t.settings.policy ≡ policy → version_in (note_of t.notes addr.0) ≡ noted → IsAcquiring result t }
         ensures within { IsWithin result }
-        ensures knows { KnowsSafe result }
         ensures bound { accesses_left result ≤ (looks policy + 1) * 4 }
     {
         AcquireOp {
@@ -127,8 +125,7 @@ impl AcquireOp {
         }
     }
 
-    /// Takes the word that the access found. Where all words so far are those of a safe world, the cause of
-    /// a bad end has its evidence.
+    /// Takes the word that the access found.
     #[tactic(auto, unfolding(stm_model::specs::After::after_at, stm_model::specs::Accesses::next_at, stm_model::specs::Accesses::answer_of))]
     pub fn take<N: Notes>(&mut self, _notes: &N, answer: u64)
         requires going { IsNone (end_of_acquire self.old) }
@@ -139,43 +136,38 @@ impl AcquireOp {
             next_access (acquiring self.old value t) ≡ Some (Exchange (meta_of_cell self.old.addr.0) answer (meta_word (owned self.old.own meta))) }
         ensures cell { self.new.addr ≡ self.old.addr }
         ensures same { (t : Attempt) → IsAcquiring self.old t → IsAcquiring self.new t }
-        ensures refusal { IfSome (end_of_acquire self.new) (EndShows self.old) }
-        ensures knows { KnowsSafe self.old → IsOfSafeWorld self.old.place self.old.own answer → KnowsSafe self.new }
-        ensures evidence { KnowsSafe self.old → IsOfSafeWorld self.old.place self.old.own answer → IfSome (end_of_acquire self.new) (EndHasEvidence self.old.own) }
         ensures within { IsWithin self.new }
         ensures falls { accesses_left self.new < accesses_left self.old }
     {
         match self.place {
-            AcquirePlace::AcquireMeta => self.look(unpack_meta(answer)),
+            AcquirePlace::AcquireMeta => self.load_meta(unpack_meta(answer)),
             AcquirePlace::Acquire {
                 first,
                 expected,
                 again,
-            } => { self.try_to_own(first, expected, again, unpack_meta(answer)) }
-            AcquirePlace::OwnerStatus { first } => self.see_owner(first, unpack_status(answer)),
+            } => { self.exchange(first, expected, again, unpack_meta(answer)) }
+            AcquirePlace::OwnerStatus { first } => self.load_owner_status(
+                first,
+                unpack_status(answer),
+            ),
             AcquirePlace::OwnerMeta { first, status } => {
-                self.see_again(first, status, unpack_meta(answer))
+                self.validate_owner(first, status, unpack_meta(answer))
             }
             AcquirePlace::DoomOwner { first, second, .. } => self.end_round(first, second),
             AcquirePlace::Ended(_) => {}
         }
     }
 
-    // The first look of a round showed this.
-    #[tactic(auto, unfolding(stm_model::specs::After::acquiring, stm_model::specs::Evidence::Evidence))]
-    fn look(&mut self, first: Meta)
+    // The round begins: this meta word was loaded.
+    #[tactic(auto, unfolding(stm_model::specs::After::acquiring))]
+    fn load_meta(&mut self, first: Meta)
         requires place { self.old.place ≡ at_acquire.AcquireMeta }
         requires within { IsWithin self.old }
         requires fits { MetaFits first }
         ensures after { (t : Attempt) (value : ℕ) → IsAcquiring self.old t →
             meta_acquired t self.old.addr.0 value (rounds_left self.old) self.old.doom_tried (note_of t.notes self.old.addr.0) first ≡ acquiring self.new value t }
-        ensures not_yet { (meta : Meta) → end_of_acquire self.new ≡ Some (Owned meta) → ⊥ }
-        ensures cell { self.new.addr ≡ self.old.addr }
-        ensures same { (t : Attempt) → IsAcquiring self.old t → IsAcquiring self.new t }
-        ensures refusal { IfSome (end_of_acquire self.new) (EndShows self.old) }
-        ensures knows { IsOfSafeCell self.old.own first → KnowsSafe self.new }
-        ensures evidence { IsOfSafeCell self.old.own first → IfSome (end_of_acquire self.new) (EndHasEvidence self.old.own) }
-        ensures within { IsWithin self.new }
+        ensures unowned { IsUnowned self.new.place }
+        ensures keeps { Keeps self.old self.new }
         ensures falls { accesses_left self.new < accesses_left self.old }
     {
         match self.noted {
@@ -193,23 +185,18 @@ impl AcquireOp {
                     again: false,
                 };
             }
-            _ => self.meet_owner(first),
+            _ => self.doom_or_again(first),
         }
     }
 
-    // Somebody owns the cell: another, that may be doomed, or the caller itself.
-    fn meet_owner(&mut self, first: Meta)
+    // The cell has an owner: another, that may be doomed, or the caller itself.
+    fn doom_or_again(&mut self, first: Meta)
         requires place { self.old.place ≡ at_acquire.AcquireMeta }
         requires within { IsWithin self.old }
         ensures after { (t : Attempt) (value : ℕ) → IsAcquiring self.old t →
             met t self.old.addr.0 value (rounds_left self.old) self.old.doom_tried first ≡ acquiring self.new value t }
-        ensures not_yet { (meta : Meta) → end_of_acquire self.new ≡ Some (Owned meta) → ⊥ }
-        ensures cell { self.new.addr ≡ self.old.addr }
-        ensures same { (t : Attempt) → IsAcquiring self.old t → IsAcquiring self.new t }
-        ensures refusal { IfSome (end_of_acquire self.new) (EndShows self.old) }
-        ensures knows { IsTrue (owned_by_another self.old.own first) → KnowsSafe self.new }
-        ensures evidence { IsTrue (owned_by_another self.old.own first) → IfSome (end_of_acquire self.new) (EndHasEvidence self.old.own) }
-        ensures within { IsWithin self.new }
+        ensures unowned { IsUnowned self.new.place }
+        ensures keeps { Keeps self.old self.new }
         ensures falls { accesses_left self.new < accesses_left self.old }
     {
         let step = next_move(
@@ -227,22 +214,16 @@ impl AcquireOp {
         }
     }
 
-    // An exchange of the metadata found this.
+    // The compare-exchange of the meta word found this.
     #[tactic(auto, unfolding(stm_model::specs::After::exchanged))]
-    fn try_to_own(&mut self, first: Meta, expected: Meta, again: bool, found: Meta)
+    fn exchange(&mut self, first: Meta, expected: Meta, again: bool, found: Meta)
         requires place { self.old.place ≡ at_acquire.Acquire first expected again }
         requires within { IsWithin self.old }
         requires fits { MetaFits found }
         ensures after { (t : Attempt) (value : ℕ) → IsAcquiring self.old t →
             exchanged t self.old.addr.0 value (rounds_left self.old) self.old.doom_tried first expected again found ≡ acquiring self.new value t }
-        ensures owned { (meta : Meta) → end_of_acquire self.new ≡ Some (Owned meta) → meta ≡ found }
-        ensures won { (meta : Meta) → end_of_acquire self.new ≡ Some (Owned meta) → found ≡ expected }
-        ensures cell { self.new.addr ≡ self.old.addr }
-        ensures same { (t : Attempt) → IsAcquiring self.old t → IsAcquiring self.new t }
-        ensures refusal { IfSome (end_of_acquire self.new) (EndShows self.old) }
-        ensures knows { IsFree first expected again → IsOfSafeCell self.old.own found → KeepsPending expected found → KnowsSafe self.new }
-        ensures evidence { IsFree first expected again → IsOfSafeCell self.old.own found → KeepsPending expected found → IfSome (end_of_acquire self.new) (EndHasEvidence self.old.own) }
-        ensures within { IsWithin self.new }
+        ensures owned { (meta : Meta) → end_of_acquire self.new ≡ Some (Owned meta) → (meta ≡ found) × (found ≡ expected) }
+        ensures keeps { Keeps self.old self.new }
         ensures falls { accesses_left self.new < accesses_left self.old }
     {
         let is_close = found.is_same_but_pending(expected);
@@ -259,21 +240,16 @@ impl AcquireOp {
         }
     }
 
-    // The owner's status shows this. Only an active owner is looked at again.
+    // The owner's status was loaded. Only the hold of an active owner is validated.
     #[tactic(auto, unfolding(stm_model::specs::After::owner_status_loaded))]
-    fn see_owner(&mut self, first: Meta, status: TxnStatus)
+    fn load_owner_status(&mut self, first: Meta, status: TxnStatus)
         requires place { self.old.place ≡ at_acquire.OwnerStatus first }
         requires within { IsWithin self.old }
         requires fits { StatusFits status }
         ensures after { (t : Attempt) (value : ℕ) → IsAcquiring self.old t →
             owner_status_loaded t self.old.addr.0 value (rounds_left self.old) first status ≡ acquiring self.new value t }
-        ensures not_yet { (meta : Meta) → end_of_acquire self.new ≡ Some (Owned meta) → ⊥ }
-        ensures cell { self.new.addr ≡ self.old.addr }
-        ensures same { (t : Attempt) → IsAcquiring self.old t → IsAcquiring self.new t }
-        ensures refusal { IfSome (end_of_acquire self.new) (EndShows self.old) }
-        ensures knows { IsTrue (owned_by_another self.old.own first) → KnowsSafe self.new }
-        ensures evidence { IsTrue (owned_by_another self.old.own first) → IfSome (end_of_acquire self.new) (EndHasEvidence self.old.own) }
-        ensures within { IsWithin self.new }
+        ensures unowned { IsUnowned self.new.place }
+        ensures keeps { Keeps self.old self.new }
         ensures falls { accesses_left self.new < accesses_left self.old }
     {
         if status.phase == Phase::Active {
@@ -283,20 +259,15 @@ impl AcquireOp {
         }
     }
 
-    // The cell shows this. Only an owner that still holds it, and isn't changing it, is doomed.
+    // The meta word was loaded again. Only an owner that still holds the cell, and isn't changing it, is doomed.
     #[tactic(auto, unfolding(stm_model::specs::After::owner_validated))]
-    fn see_again(&mut self, first: Meta, status: TxnStatus, second: Meta)
+    fn validate_owner(&mut self, first: Meta, status: TxnStatus, second: Meta)
         requires place { self.old.place ≡ at_acquire.OwnerMeta first status }
         requires within { IsWithin self.old }
         ensures after { (t : Attempt) (value : ℕ) → IsAcquiring self.old t →
             owner_validated t self.old.addr.0 value (rounds_left self.old) first status second ≡ acquiring self.new value t }
-        ensures not_yet { (meta : Meta) → end_of_acquire self.new ≡ Some (Owned meta) → ⊥ }
-        ensures cell { self.new.addr ≡ self.old.addr }
-        ensures same { (t : Attempt) → IsAcquiring self.old t → IsAcquiring self.new t }
-        ensures refusal { IfSome (end_of_acquire self.new) (EndShows self.old) }
-        ensures knows { IsTrue (owned_by_another self.old.own first) → IsOfSafeCell self.old.own second → KnowsSafe self.new }
-        ensures evidence { IsTrue (owned_by_another self.old.own first) → IsOfSafeCell self.old.own second → IfSome (end_of_acquire self.new) (EndHasEvidence self.old.own) }
-        ensures within { IsWithin self.new }
+        ensures unowned { IsUnowned self.new.place }
+        ensures keeps { Keeps self.old self.new }
         ensures falls { accesses_left self.new < accesses_left self.old }
     {
         if second.owner == first.owner && !second.changing {
@@ -315,13 +286,8 @@ impl AcquireOp {
         requires { IsWithin self.old }
         ensures after { (t : Attempt) (value : ℕ) → IsAcquiring self.old t →
             acquire_again t self.old.addr.0 value (rounds_left self.old) self.old.doom_tried first latest ≡ acquiring self.new value t }
-        ensures not_yet { (meta : Meta) → end_of_acquire self.new ≡ Some (Owned meta) → ⊥ }
-        ensures cell { self.new.addr ≡ self.old.addr }
-        ensures same { (t : Attempt) → IsAcquiring self.old t → IsAcquiring self.new t }
-        ensures refusal { IfSome (end_of_acquire self.new) (EndShows self.old) }
-        ensures knows { KnowsSafe self.new }
-        ensures evidence { IsOwnedOrMoved self.old.own first latest → IfSome (end_of_acquire self.new) (EndHasEvidence self.old.own) }
-        ensures within { IsWithin self.new }
+        ensures unowned { IsUnowned self.new.place }
+        ensures keeps { Keeps self.old self.new }
         ensures falls { accesses_left self.new ≤ 4 * rounds_left self.old }
     {
         let step = next_move(self.policy, self.rounds_done + 1, true, latest, self.own);
@@ -334,11 +300,8 @@ impl AcquireOp {
     }
 
     // Why the first write is refused, the last round having ended with this word.
-    #[tactic(auto, unfolding(stm_model::specs::Evidence::Evidence))]
     fn refusal(&self, first: Meta, latest: Meta) -> Cause
-        ensures is { result ≡ write_refused self.now.own self.now.addr.0 first latest }
-        ensures shows { RefusalShows self.now result }
-        ensures evidence { IsOwnedOrMoved self.now.own first latest → IsEvident self.now.own result }
+        ensures { result ≡ write_refused self.now.own self.now.addr.0 first latest }
     {
         if latest.is_owned_by_another(self.own) {
             Cause::WriteConflict {

@@ -1,12 +1,14 @@
-//! The way back: cells are given back, the first ones first. So a level is undone, and so an attempt is
-//! rolled back, which then stores that it is over.
-ghost use Rattle.std.specs.Prelude.{◌≡◌, ◌<◌, ◌≤◌, ◌+◌, [], ℕ, true, false, List, Option, IsNone, IsSome, None, drop, length, take};
+//! The release of a level's cells, and the rollback of an attempt: the owner's bits of one cell after another
+//! are cleared, the first ones first. A rollback then stores that the attempt is over.
+ghost use Rattle.std.specs.Prelude.{◌≡◌, ◌<◌, ◌≤◌, ◌+◌, [], ◌∷◌, ℕ, true, false, List, Option, IsNone, IsSome, None, drop, length};
 ghost use Rattle.meta_word.specs.declared.status.TheConstants.{MAX_SERIAL};
 ghost use Rattle.stm_model.specs.declared.cause.Addr.{Addr};
 ghost use Rattle.stm_model.specs.declared.note.Note.{Note};
 ghost use Rattle.stm_model.specs.Accesses.{next_access};
-ghost use Rattle.stm_model.specs.After.{after_word, release_level_on, roll_on};
+ghost use Rattle.stm_model.specs.After.{after_word, roll_on};
 ghost use Rattle.stm_model.specs.Attempt.{Attempt};
+ghost use Rattle.stm_model.specs.CellsState.{Book};
+ghost use Rattle.stm_model.specs.Moves.{undo_level};
 ghost use Rattle.op_commit.specs.Back.{IsAlong, IsBacking, IsInPlace, accesses_left, backing, backing_at, due_at, due_by, end_of_back, left_at};
 ghost use Rattle.op_commit.specs.Buffered.{buffered, ring_for};
 ghost use Rattle.op_commit.specs.declared.back.BackPlace.TheVariants as at_back;
@@ -15,29 +17,27 @@ use crate::rings::cell_to_ring;
 use meta_word::{OWNER_AND_CHANGING_BITS, Phase, pack_status, unpack_meta};
 use stm_model::{Access, Addr, Notes, TxnStatus, Word};
 
-/// How a way back ended.
+/// How it ended.
 #[derive(Clone, Copy, Debug, PartialEq, Eq)]
 pub enum BackEnd {
     Back,
 }
 
-/// Where a way back stands.
-#[derive(Clone, Copy, Debug, PartialEq, Eq)]
+/// Where it stands.
+#[derive(Clone, Copy)]
 pub enum BackPlace {
     /// The cell of this index is next, and behind the last one the status.
     Cell { index: usize },
     Ended(BackEnd),
 }
 
-/// The way back over buffered cells.
-#[derive(Clone, Copy, Debug, PartialEq, Eq)]
+/// The release of a level, or the rollback of an attempt, over buffered cells.
+#[derive(Clone, Copy)]
 pub struct BackOp {
     /// The number of the caller, and of its attempt.
     pub own: u16,
     pub serial: u64,
-    /// The cells before this one stay.
-    pub first: usize,
-    /// The attempt is over with it.
+    /// It is a rollback: the attempt is over with it.
     pub whole: bool,
     /// The cell whose pending bit the last access found.
     pub rung: Option<Addr>,
@@ -45,10 +45,11 @@ pub struct BackOp {
 }
 
 impl BackOp {
-    /// A way back that has made no access.
+    /// It has made no access. The cells before `first` stay owned; where it is `whole`, it is a rollback.
     pub fn new(own: u16, serial: u64, first: usize, whole: bool) -> BackOp
         requires { serial ≤ MAX_SERIAL }
-        ensures undoes { whole ≡ false → (t : Attempt) → backing result t ≡ release_level_on t (take first t.now.writes) (drop first t.now.writes) }
+        ensures undoes { whole ≡ false → (t : Attempt) (former : Book) (books : List Book) → t.saved ≡ former ∷ books → length former.writes ≡ first →
+            backing result t ≡ undo_level t t.saved }
         ensures rolls { whole ≡ true → (t : Attempt) → backing result t ≡ roll_on t (drop first t.now.writes) }
         ensures going { end_of_back result ≡ None }
         ensures whole { result.whole ≡ whole }
@@ -60,14 +61,13 @@ impl BackOp {
         BackOp {
             own,
             serial,
-            first,
             whole,
             rung: None,
             place: BackPlace::Cell { index: first },
         }
     }
 
-    /// The next access, and none once the way back has ended.
+    /// The next access, and none once it has ended.
     #[tactic(auto, unfolding(stm_model::specs::Accesses::next_at, stm_model::specs::Accesses::access_of))]
     pub fn next<N: Notes>(&self, notes: &N) -> Option<Access>
         requires { IsAlong self.now (N.notes notes.now) }
@@ -107,7 +107,7 @@ impl BackOp {
         match self.place {
             BackPlace::Cell { index } if index < count => {
                 self.rung = cell_to_ring(unpack_meta(answer), notes.at(index).addr);
-                self.place = self.back_from(index + 1, count);
+                self.place = self.release_from(index + 1, count);
             }
             BackPlace::Cell { .. } => {
                 self.rung = None;
@@ -117,11 +117,11 @@ impl BackOp {
         }
     }
 
-    // Of so many cells, those before this index are given back.
-    fn back_from(&self, index: usize, count: usize) -> BackPlace
+    // Of so many cells, those before this index are released.
+    fn release_from(&self, index: usize, count: usize) -> BackPlace
         requires { index ≤ count }
-        ensures stands { (t : Attempt) → length t.now.writes ≡ count →
-            backing_at (at_back.Cell index) self.now.first self.now.whole t ≡ backing_at result self.now.first self.now.whole t }
+        ensures shows { (t : Attempt) → length t.now.writes ≡ count →
+            backing_at (at_back.Cell index) self.now.whole t ≡ backing_at result self.now.whole t }
         ensures due { (t : Attempt) (rung : Option Addr) → due_at result self.now.whole rung t ≡ ring_for rung }
         ensures in_place { (notes : List Note) → length notes ≡ count → IsInPlace result self.now.whole notes }
         ensures left { left_at result self.now.whole count ≡ left_at (at_back.Cell index) self.now.whole count }
@@ -140,7 +140,7 @@ impl BackOp {
         self.rung
     }
 
-    /// How the way back ended, once it has.
+    /// How it ended, once it has.
     pub fn end(&self) -> Option<BackEnd>
         ensures { result ≡ end_of_back self.now }
     {

@@ -1,6 +1,6 @@
-//! The commit of a writer: its status and a mark on each cell, a check of what it read at a clock, the
-//! exchange of that clock, which is the decision, and then the values and the release of each cell. It
-//! stops where handlers are to be run.
+//! The commit of a writer: its status is exchanged and each cell marked, what it read is validated at a clock,
+//! and the exchange of that clock is the decision. Then the values are stored and the cells released. It stops
+//! where handlers are to be run.
 ghost use Rattle.std.specs.Prelude.{◌≡◌, ◌<◌, ◌≤◌, ◌+◌, ◌-◌, ◌*◌, [], ℕ, List, Option, IsNone, IsSome, None, drop, length};
 ghost use Rattle.meta_word.specs.Meta.{meta_word};
 ghost use Rattle.meta_word.specs.Status.{status_word};
@@ -9,12 +9,12 @@ ghost use Rattle.meta_word.specs.declared.status.TheConstants.{MAX_SERIAL};
 ghost use Rattle.meta_word.specs.declared.status.Phase.TheVariants.{Preparing};
 ghost use Rattle.stm_model.specs.declared.access.Access.TheVariants.{Exchange};
 ghost use Rattle.stm_model.specs.declared.access.Word.TheVariants.{Status};
-ghost use Rattle.stm_model.specs.declared.cause.Cause.TheVariants.{Stale};
 ghost use Rattle.stm_model.specs.declared.note.Note.{Note};
 ghost use Rattle.stm_model.specs.Accesses.{active, next_access, released};
 ghost use Rattle.stm_model.specs.After.{after_word, at, validate_on, decided, mark_on, prepared, release_on, store_on};
 ghost use Rattle.stm_model.specs.Attempt.{Attempt, Prepare};
-ghost use Rattle.op_commit.specs.Commit.{ClockFits, IsAlong, IsCommitting, IsInPlace, IsOfOwnAttempt, IsOfSafeWorld, IsStop, PlaceHasEvidence, PlaceShows, accesses_left, committing, committing_at, due_at, due_by, end_at, end_of_commit, in_preparation, left_at, notes_to_commit, rounds, stamped};
+ghost use Rattle.op_commit.specs.Commit.{ClockFits, IsAlong, IsCommitting, IsInPlace, IsStop, accesses_left, committing, committing_at, due_at, due_by, end_at, end_of_commit, in_preparation, left_at, notes_to_commit, rounds, stamped};
+ghost use Rattle.op_commit.specs.CommitParts.{ComesTo};
 ghost use Rattle.op_commit.specs.Buffered.{ring_for};
 ghost use Rattle.op_commit.specs.declared.commit.CommitEnd.TheVariants.{Bad};
 ghost use Rattle.stm_model.specs.declared.cause.Addr.{Addr};
@@ -22,7 +22,7 @@ ghost use Rattle.op_commit.specs.declared.commit.CommitPlace.TheVariants as at_c
 
 use crate::rings::cell_to_ring;
 use meta_word::{CHANGING_BIT, Phase, pack_meta, pack_status, unpack_meta, unpack_status};
-use stm_model::{Access, Addr, Cause, Meta, Note, Notes, TxnStatus, Word};
+use stm_model::{Access, Addr, Cause, Meta, Notes, TxnStatus, Word};
 
 /// How a commit ended, or where it stops.
 #[derive(Clone, Copy, Debug, PartialEq, Eq)]
@@ -37,7 +37,7 @@ pub enum CommitEnd {
 }
 
 /// Where a commit stands. The clock was lost so many times, and was loaded last as `clock`.
-#[derive(Clone, Copy, Debug, PartialEq, Eq)]
+#[derive(Clone, Copy)]
 pub enum CommitPlace {
     Prepare,
     Mark { index: usize },
@@ -51,7 +51,7 @@ pub enum CommitPlace {
 }
 
 /// The commit of an attempt that has written.
-#[derive(Clone, Copy, Debug, PartialEq, Eq)]
+#[derive(Clone, Copy)]
 pub struct CommitOp {
     /// The number of the caller, and of its attempt.
     pub own: u16,
@@ -152,9 +152,8 @@ impl CommitOp {
         })
     }
 
-    /// Takes the word that the access found. Where it is one of a safe world, the cause of a bad end has its
-    /// evidence for all settings with this limit of the clock.
-    #[tactic(auto, using(stm_model::proofs::EvidenceLemmas::is_stale), unfolding(stm_model::specs::After::after_at, stm_model::specs::After::final_runs, stm_model::specs::Accesses::next_at, stm_model::specs::Accesses::answer_of, stm_model::specs::Evidence::Evidence))]
+    /// Takes the word that the access found.
+    #[tactic(auto, unfolding(stm_model::specs::After::after_at, stm_model::specs::After::final_runs, stm_model::specs::Accesses::next_at, stm_model::specs::Accesses::answer_of))]
     pub fn take<N: Notes>(&mut self, notes: &N, answer: u64)
         requires along { IsAlong self.old (N.notes notes.now) }
         requires going { IsNone (end_of_commit self.old) }
@@ -163,8 +162,6 @@ impl CommitOp {
         ensures after { (t : Attempt) → t.due ≡ [] → IsCommitting self.old t → N.notes notes.now ≡ notes_to_commit t →
             after_word (committing self.old t) answer ≡ committing self.new (record t { due = due_by self.new t }) }
         ensures same { (t : Attempt) → IsCommitting self.old t → IsCommitting self.new t }
-        ensures failure { PlaceShows self.old self.new.place }
-        ensures evidence { IsOfSafeWorld self.old.place self.old.serial answer → PlaceHasEvidence self.old self.new.place }
         ensures falls { (reads : ℕ) → length (N.notes notes.now) ≡ self.old.writes + reads → accesses_left self.new reads < accesses_left self.old reads }
     {
         let count = notes.len();
@@ -173,21 +170,24 @@ impl CommitOp {
             CommitPlace::Prepare => self.place = self.after_prepare(unpack_status(answer)),
             CommitPlace::Mark { index } => self.place = self.mark_from(index + 1),
             CommitPlace::CommitClock { lost } => {
-                self.place = self.check_from(lost, answer, self.writes, count);
+                self.place = self.validate_from(lost, answer, self.writes, count);
             }
             CommitPlace::CommitNote { lost, clock, index } => {
                 let note = notes.at(index);
                 let found = unpack_meta(answer);
                 if found.still_has(self.own, note.version) {
-                    self.place = self.check_from(lost, clock, index + 1, count);
+                    self.place = self.validate_from(lost, clock, index + 1, count);
                 } else {
-                    self.place = stale(note, found);
+                    self.place = refused(note.stale(found));
                 }
             }
             CommitPlace::Decide { lost, clock } => self.place = self.after_decide(
                 lost, clock, answer,
             ),
-            CommitPlace::StoreValues { stamp, index } => self.place = self.store_from(stamp, index + 1),
+            CommitPlace::StoreValues { stamp, index } => self.place = self.store_from(
+                stamp,
+                index + 1,
+            ),
             CommitPlace::Release { stamp, index } => {
                 self.rung = cell_to_ring(unpack_meta(answer), notes.at(index).addr);
                 self.place = self.release_from(stamp, index + 1);
@@ -200,11 +200,9 @@ impl CommitOp {
     }
 
     // The exchange of its status found this.
-    #[tactic(auto, unfolding(stm_model::specs::After::prepared, stm_model::specs::Evidence::Evidence))]
+    #[tactic(auto, unfolding(stm_model::specs::After::prepared))]
     fn after_prepare(&self, found: TxnStatus) -> CommitPlace
-        ensures failure { PlaceShows self.now result }
-        ensures evidence { IsOfOwnAttempt self.now.serial found → PlaceHasEvidence self.now result }
-        ensures stands { (t : Attempt) → t.due ≡ [] → IsCommitting self.now t →
+        ensures shows { (t : Attempt) → t.due ≡ [] → IsCommitting self.now t →
             prepared t found ≡ committing_at result self.now.writes (record t { due = due_at result None t }) }
         ensures in_place { (count : ℕ) → IsInPlace result self.now.writes self.now.limit count }
         ensures left { (reads : ℕ) → left_at result self.now.writes self.now.tries reads ≤ self.now.writes + rounds (self.now.tries + 1) self.now.writes reads }
@@ -219,11 +217,7 @@ impl CommitOp {
     // The cells before this index are marked.
     fn mark_from(&self, index: usize) -> CommitPlace
         requires { index ≤ self.now.writes }
-        ensures failure { PlaceShows self.now result }
-        ensures evidence { PlaceHasEvidence self.now result }
-        ensures stands { (t : Attempt) → IsCommitting self.now t →
-            mark_on (in_preparation t) (drop index t.now.writes) ≡ committing_at result self.now.writes t }
-        ensures due { (t : Attempt) → due_at result None t ≡ [] }
+        ensures comes { ComesTo self.now result (λ t. mark_on (in_preparation t) (drop index t.now.writes)) }
         ensures going { IsNone (end_at result) }
         ensures in_place { (count : ℕ) → IsInPlace result self.now.writes self.now.limit count }
         ensures left { (reads : ℕ) → left_at result self.now.writes self.now.tries reads ≡ left_at (at_commit.Mark index) self.now.writes self.now.tries reads }
@@ -236,14 +230,12 @@ impl CommitOp {
     }
 
     // Of so many notes, those before this index hold good at the clock.
-    #[tactic(auto, unfolding(stm_model::specs::After::validate_on, stm_model::specs::Evidence::Evidence))]
-    fn check_from(&self, lost: u16, clock: u64, index: usize, count: usize) -> CommitPlace
+    #[tactic(auto, unfolding(stm_model::specs::After::validate_on))]
+    fn validate_from(&self, lost: u16, clock: u64, index: usize, count: usize) -> CommitPlace
         requires behind { self.now.writes ≤ index }
         requires within { index ≤ count }
         requires clock { clock ≤ self.now.limit }
-        ensures failure { PlaceShows self.now result }
-        ensures evidence { PlaceHasEvidence self.now result }
-        ensures stands { (t : Attempt) → IsCommitting self.now t → count ≡ self.now.writes + length t.notes →
+        ensures shows { (t : Attempt) → IsCommitting self.now t → count ≡ self.now.writes + length t.notes →
             validate_on (in_preparation t) lost clock (drop (index - self.now.writes) t.notes) ≡ committing_at result self.now.writes t }
         ensures due { (t : Attempt) → due_at result None t ≡ [] }
         ensures in_place { IsInPlace result self.now.writes self.now.limit count }
@@ -263,12 +255,10 @@ impl CommitOp {
     }
 
     // The exchange of the clock found this.
-    #[tactic(auto, unfolding(stm_model::specs::After::decided, stm_model::specs::Evidence::Evidence))]
+    #[tactic(auto, unfolding(stm_model::specs::After::decided))]
     fn after_decide(&self, lost: u16, clock: u64, found: u64) -> CommitPlace
         requires { clock < self.now.limit }
-        ensures failure { PlaceShows self.now result }
-        ensures evidence { clock ≤ found → PlaceHasEvidence self.now result }
-        ensures stands { (t : Attempt) → t.due ≡ [] → IsCommitting self.now t →
+        ensures shows { (t : Attempt) → t.due ≡ [] → IsCommitting self.now t →
             decided (in_preparation t) lost clock found ≡ committing_at result self.now.writes (record t { due = due_at result None t }) }
         ensures in_place { (count : ℕ) → IsInPlace result self.now.writes self.now.limit count }
         ensures left { (reads : ℕ) → left_at result self.now.writes self.now.tries reads ≤ rounds (self.now.tries - lost) self.now.writes reads }
@@ -288,11 +278,7 @@ impl CommitOp {
     // The values before this index are stored.
     fn store_from(&self, stamp: u64, index: usize) -> CommitPlace
         requires { index ≤ self.now.writes }
-        ensures failure { PlaceShows self.now result }
-        ensures evidence { PlaceHasEvidence self.now result }
-        ensures stands { (t : Attempt) → IsCommitting self.now t →
-            store_on (stamped t stamp) (drop index t.now.writes) ≡ committing_at result self.now.writes t }
-        ensures due { (t : Attempt) → due_at result None t ≡ [] }
+        ensures comes { ComesTo self.now result (λ t. store_on (stamped t stamp) (drop index t.now.writes)) }
         ensures going { IsNone (end_at result) }
         ensures in_place { stamp ≤ self.now.limit → (count : ℕ) → IsInPlace result self.now.writes self.now.limit count }
         ensures left { (reads : ℕ) → left_at result self.now.writes self.now.tries reads ≡ left_at (at_commit.StoreValues stamp index) self.now.writes self.now.tries reads }
@@ -307,11 +293,7 @@ impl CommitOp {
     // The cells before this index are released.
     fn release_from(&self, stamp: u64, index: usize) -> CommitPlace
         requires { index ≤ self.now.writes }
-        ensures failure { PlaceShows self.now result }
-        ensures evidence { PlaceHasEvidence self.now result }
-        ensures stands { (t : Attempt) → IsCommitting self.now t →
-            release_on (stamped t stamp) (drop index t.now.writes) ≡ committing_at result self.now.writes t }
-        ensures due { (t : Attempt) (rung : Option Addr) → due_at result rung t ≡ ring_for rung }
+        ensures comes { ComesTo self.now result (λ t. release_on (stamped t stamp) (drop index t.now.writes)) }
         ensures going { IsNone (end_at result) }
         ensures in_place { stamp ≤ self.now.limit → (count : ℕ) → IsInPlace result self.now.writes self.now.limit count }
         ensures left { (reads : ℕ) → left_at result self.now.writes self.now.tries reads ≡ left_at (at_commit.Release stamp index) self.now.writes self.now.tries reads }
@@ -326,7 +308,7 @@ impl CommitOp {
     /// Goes on after the handlers of a stop have run.
     pub fn resume(&mut self)
         requires stop { IsStop self.old.place }
-        ensures stands { (t : Attempt) → IsCommitting self.old t → committing self.new t ≡ committing self.old t }
+        ensures shows { (t : Attempt) → IsCommitting self.old t → committing self.new t ≡ committing self.old t }
         ensures going { IsNone (end_of_commit self.new) }
         ensures rings { self.new.rung ≡ self.old.rung }
         ensures same { (t : Attempt) → IsCommitting self.old t → IsCommitting self.new t }
@@ -365,17 +347,6 @@ fn refused(cause: Cause) -> CommitPlace
     CommitPlace::Ended(CommitEnd::Bad {
         cause,
         prefix: None,
-    })
-}
-
-// The cell was noted at another version, or is about to change.
-fn stale(note: Note, found: Meta) -> CommitPlace
-    ensures { result ≡ at_commit.Ended (Bad (Stale note.addr note.version found) None) }
-{
-    refused(Cause::Stale {
-        addr: note.addr,
-        version: note.version,
-        meta: found,
     })
 }
 

@@ -1,4 +1,4 @@
-//! The wait for a cell to be released: one look at it, which sets the pending bit.
+//! The wait for a cell to be released: one access, which sets the pending bit.
 ghost use Rattle.std.specs.Prelude.{◌≡◌, IsNone, IsSome};
 ghost use Rattle.stm_model.specs.Accesses.{packed};
 ghost use Rattle.stm_model.specs.Waiting.{Await, next_wait};
@@ -8,23 +8,23 @@ ghost use Rattle.op_commit.specs.Waits.{wait_word};
 use meta_word::{PENDING_BIT, unpack_meta};
 use stm_model::{Access, Addr, Meta, Notes, Word};
 
-/// What the look showed.
+/// What the access found.
 #[derive(Clone, Copy, Debug, PartialEq, Eq)]
 pub enum FreeEnd {
-    /// Another owns the cell, and the caller is rung for once it is given back.
+    /// Another owns the cell, and the caller is rung for once it is released.
     Held { meta: Meta },
     Released { meta: Meta },
 }
 
 /// Where it stands.
-#[derive(Clone, Copy, Debug, PartialEq, Eq)]
+#[derive(Clone, Copy)]
 pub enum FreePlace {
-    Look,
+    Await,
     Ended(FreeEnd),
 }
 
-/// The look at a cell that another owned.
-#[derive(Clone, Copy, Debug, PartialEq, Eq)]
+/// The wait for a cell that another owned.
+#[derive(Clone, Copy)]
 pub struct FreeOp {
     pub addr: Addr,
     /// The number of the caller that waits.
@@ -33,7 +33,7 @@ pub struct FreeOp {
 }
 
 impl FreeOp {
-    /// A look that is to be made.
+    /// It has made no access.
     pub fn new(addr: Addr, own: u16) -> FreeOp
         ensures begins { freeing result ≡ Await addr.0 }
         ensures own { result.own ≡ own }
@@ -41,17 +41,17 @@ impl FreeOp {
         FreeOp {
             addr,
             own,
-            place: FreePlace::Look,
+            place: FreePlace::Await,
         }
     }
 
-    /// The next access, and none once the look was made.
+    /// The next access, and none once it has ended.
     #[tactic(auto, unfolding(stm_model::specs::Waiting::next_wait, stm_model::specs::Accesses::access_of))]
     pub fn next<N: Notes>(&self, _notes: &N) -> Option<Access>
         ensures { result ≡ packed (next_wait (freeing self.now)) }
     {
         match self.place {
-            FreePlace::Look => Some(Access::SetBits(Word::Meta(self.addr), PENDING_BIT)),
+            FreePlace::Await => Some(Access::SetBits(Word::Meta(self.addr), PENDING_BIT)),
             FreePlace::Ended(_) => None,
         }
     }
@@ -72,12 +72,12 @@ impl FreeOp {
         };
     }
 
-    /// What the look showed, once it was made.
+    /// What the access found, once it was made.
     pub fn end(&self) -> Option<FreeEnd>
         ensures { result ≡ end_of_free self.now }
     {
         match self.place {
-            FreePlace::Look => None,
+            FreePlace::Await => None,
             FreePlace::Ended(end) => Some(end),
         }
     }

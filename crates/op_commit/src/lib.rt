@@ -1,4 +1,4 @@
-//! First writes, commits, ways back and waits, one access at a time.
+//! First writes, commits, rollbacks and waits, one access at a time.
 #![tactic(auto)]
 
 mod acquire;

@@ -20,7 +20,7 @@ pub enum WatchEnd {
 }
 
 /// Where it stands.
-#[derive(Clone, Copy, Debug, PartialEq, Eq)]
+#[derive(Clone, Copy)]
 pub enum RegisterPlace {
     /// The note of this index is next.
     Note { index: usize },
@@ -29,7 +29,7 @@ pub enum RegisterPlace {
 }
 
 /// The round over the notes of what was read. There is a note at least.
-#[derive(Clone, Copy, Debug, PartialEq, Eq)]
+#[derive(Clone, Copy)]
 pub struct RegisterOp {
     /// The number of the caller that waits.
     pub own: u16,
@@ -80,7 +80,7 @@ impl RegisterOp {
             let note = notes.at(index);
             let found = unpack_meta(answer);
             if found.still_has(self.own, note.version) {
-                self.go_on(index + 1, count);
+                self.watch_from(index + 1, count);
             } else {
                 self.place = RegisterPlace::Changed { note, meta: found };
             }
@@ -88,12 +88,12 @@ impl RegisterOp {
     }
 
     // Of so many notes, those before this index still hold good.
-    fn go_on(&mut self, index: usize, count: usize)
+    fn watch_from(&mut self, index: usize, count: usize)
         requires { index ≤ count }
         ensures after { (notes : List Note) → length notes ≡ count → watch (drop index notes) ≡ registering self.new notes }
         ensures own { self.new.own ≡ self.old.own }
         ensures along { (notes : List Note) → length notes ≡ count → IsAlong self.new notes }
-        ensures looks { accesses_left self.new count ≡ count - index }
+        ensures left { accesses_left self.new count ≡ count - index }
     {
         self.place = if index < count {
             RegisterPlace::Note { index }

@@ -1,4 +1,4 @@
-//! Rings that come due where a cell is given back or released.
+//! Rings that come due where a cell is released.
 ghost use Rattle.std.specs.Prelude.{◌≡◌};
 ghost use Rattle.stm_model.specs.After.{ring_if};
 ghost use Rattle.op_commit.specs.Buffered.{ring_for};

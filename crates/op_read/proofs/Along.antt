@@ -21,19 +21,20 @@ drop-here list index entry here =
     rw next (drop-at list index entry here)
 
 module _ (t : Attempt) (cell left : ℕ) (first : Meta) (clock index : ℕ) (note : Note) (here : slice_get t.notes index ≡ Some note) where
-  -- at a note of this index the extension looks at it
+  -- at a note of this index
   stands : extend_on t cell left first clock (drop index t.notes) ≡ at t (ExtendNote cell left first clock note (drop (index + 1) t.notes))
   stands = rw (drop-here t.notes index note here) refl
 
-  pub looks-at : t.due ≡ [] → next_access (extend_on t cell left first clock (drop index t.notes)) ≡ Some (Load (MetaOf note.addr))
+  -- its meta word is loaded
+  pub loads-note : t.due ≡ [] → next_access (extend_on t cell left first clock (drop index t.notes)) ≡ Some (Load (MetaOf note.addr))
   unfolding next_at access_of
-  looks-at nothing = rw stands (rw nothing refl)
+  loads-note nothing = rw stands (rw nothing refl)
 
   -- Where the cell still stands as noted, the extension goes on to the next note.
-  pub goes-on : (word : ℕ) → t.due ≡ [] → still_has t.own note.version (meta_of word) ≡ true →
+  pub validates : (word : ℕ) → t.due ≡ [] → still_has t.own note.version (meta_of word) ≡ true →
       after_word (extend_on t cell left first clock (drop index t.notes)) word ≡ extend_on t cell left first clock (drop (index + 1) t.notes)
   unfolding next_at after_at answer_of extended
-  goes-on word nothing still = rw stands (rw nothing (rw still refl))
+  validates word nothing still = rw stands (rw nothing (rw still refl))
 
   pub ends-stale : (word : ℕ) → t.due ≡ [] → still_has t.own note.version (meta_of word) ≡ false →
       after_word (extend_on t cell left first clock (drop index t.notes)) word ≡ stopped t (Stale note.addr note.version (meta_of word))

@@ -9,7 +9,6 @@ use Rattle.op_read.specs.declared.extend.ExtendPlace.TheVariants as at_extend
 use Rattle.stm_model.specs.declared.note.Note.{Note}
 use Rattle.stm_model.specs.After.{at, extend_on, stopped}
 use Rattle.stm_model.specs.Attempt.{Attempt, ReadValue, ExtendClock}
-use Rattle.stm_model.specs.Evidence.{IsEvident}
 
 -- the attempt that this one is while the extension stands so, for a read of a cell
 abbrev pub extending_at : ExtendPlace → (cell left : ℕ) → Meta → Attempt → Attempt
@@ -41,15 +40,10 @@ abbrev pub end_of_extension : ExtendOp → Option ExtendEnd
 end_of_extension op = end_at op.place
 
 -- how many accesses follow at most, over so many notes
-abbrev pub looks_left_at : ExtendPlace → ℕ → ℕ
-looks_left_at at_extend.ExtendClock reads = 1 + reads
-looks_left_at (at_extend.ExtendNote clock index) reads = reads - index
-looks_left_at (at_extend.Ended end) reads = 0
+abbrev pub accesses_left_at : ExtendPlace → ℕ → ℕ
+accesses_left_at at_extend.ExtendClock reads = 1 + reads
+accesses_left_at (at_extend.ExtendNote clock index) reads = reads - index
+accesses_left_at (at_extend.Ended end) reads = 0
 
-abbrev pub looks_left : ExtendOp → ℕ → ℕ
-looks_left op = looks_left_at op.place
-
--- Where the extension was refused, the words of the cause show it.
-abbrev pub ExtensionShows : ℕ → ExtendEnd → Type 0
-ExtensionShows own (Bad cause) = IsEvident own cause
-ExtensionShows own _ = Unit {0}
+abbrev pub accesses_left : ExtendOp → ℕ → ℕ
+accesses_left op = accesses_left_at op.place

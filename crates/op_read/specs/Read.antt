@@ -1,6 +1,5 @@
 -- A read as a part of an attempt.
-use Rattle.std.specs.Prelude.{◌≡◌, ℕ, ◌+◌, ◌*◌, [], ◌∷◌, ◌++◌, Option, Some, None, IsFalse}
-use Rattle.meta_word.specs.Meta.{changing_by_another}
+use Rattle.std.specs.Prelude.{◌≡◌, ℕ, ◌+◌, ◌*◌, [], ◌∷◌, ◌++◌, Option, Some, None}
 use Rattle.stm_model.specs.declared.access.Access.{Access}
 use Rattle.stm_model.specs.declared.access.Access.TheVariants.{Load}
 use Rattle.op_read.specs.declared.read.ReadEnd.{ReadEnd}
@@ -11,7 +10,6 @@ use Rattle.op_read.specs.declared.read.ReadPlace.TheVariants as at_read
 use Rattle.stm_model.specs.Accesses.{addr_of}
 use Rattle.stm_model.specs.After.{at, stopped, answer_with}
 use Rattle.stm_model.specs.Attempt.{Attempt, ReadValue, ReadMeta, ExtendClock, Validate}
-use Rattle.stm_model.specs.Evidence.{IsEvident}
 
 -- an attempt that has read a cell
 abbrev pub got : Attempt → ℕ → ℕ → ℕ → Attempt
@@ -60,24 +58,7 @@ left_at (at_read.Ended end) left reads = 0
 abbrev pub accesses_left : ReadOp → ℕ → ℕ
 accesses_left op reads = left_at op.place op.left reads
 
--- ---- what a read shows
-
 -- a load, which changes no word
 abbrev pub IsLoad : Access → Type 0
 IsLoad (Load word) = Unit {0}
 IsLoad _ = ⊥
-
--- Where a first look was followed by more, no other caller was changing the cell.
-abbrev pub IsQuietAt : ℕ → ReadPlace → Type 0
-IsQuietAt own (at_read.ReadValue first) = IsFalse (changing_by_another own first)
-IsQuietAt own (at_read.Validate first value) = IsFalse (changing_by_another own first)
-IsQuietAt own (at_read.Ended (NeedExtension meta)) = IsFalse (changing_by_another own meta)
-IsQuietAt own _ = Unit {0}
-
-abbrev pub IsQuiet : ReadOp → Type 0
-IsQuiet op = IsQuietAt op.own op.place
-
--- Where the read was refused, the words of the cause show it.
-abbrev pub EndShows : ℕ → ReadEnd → Type 0
-EndShows own (Bad cause) = IsEvident own cause
-EndShows own _ = Unit {0}

@@ -1,4 +1,4 @@
-//! The extension of the prefix: the clock, and then a look at each cell that was noted.
+//! The extension of the prefix: the clock is loaded, and then each note is validated.
 ghost use Rattle.std.specs.Prelude.{◌≡◌, ◌<◌, ◌≤◌, ◌+◌, [], ℕ, List, IfSome, IsNone, IsSome, None, drop, length, ◌-◌};
 ghost use Rattle.meta_word.specs.declared.meta.Meta.{Meta};
 ghost use Rattle.stm_model.specs.declared.note.Note.{Note};
@@ -6,7 +6,7 @@ ghost use Rattle.stm_model.specs.Accesses.{next_access};
 ghost use Rattle.stm_model.specs.After.{after_word, at, extend_on};
 ghost use Rattle.stm_model.specs.Attempt.{Attempt, ExtendClock};
 ghost use Rattle.op_read.specs.Read.{IsLoad};
-ghost use Rattle.op_read.specs.Extend.{ExtensionShows, IsAlong, IsExtending, end_of_extension, extending, looks_left};
+ghost use Rattle.op_read.specs.Extend.{IsAlong, IsExtending, end_of_extension, extending, accesses_left};
 
 use meta_word::unpack_meta;
 use stm_model::{Access, Cause, Notes, Word};
@@ -20,16 +20,16 @@ pub enum ExtendEnd {
 }
 
 /// Where an extension stands.
-#[derive(Clone, Copy, Debug, PartialEq, Eq)]
+#[derive(Clone, Copy)]
 pub enum ExtendPlace {
     ExtendClock,
-    /// It looks at the note of this index, the clock having been loaded.
+    /// It validates the note of this index, after the clock was loaded.
     ExtendNote { clock: u64, index: usize },
     Ended(ExtendEnd),
 }
 
 /// The extension of an attempt's prefix over its notes.
-#[derive(Clone, Copy, Debug, PartialEq, Eq)]
+#[derive(Clone, Copy)]
 pub struct ExtendOp {
     /// The number of the caller that reads.
     pub own: u16,
@@ -43,7 +43,7 @@ impl ExtendOp {
         ensures going { end_of_extension result ≡ None }
         ensures along { (notes : List Note) → IsAlong result notes }
         ensures for_attempt { (t : Attempt) → t.own ≡ own → IsExtending result t }
-        ensures bound { (reads : ℕ) → looks_left result reads ≤ 1 + reads }
+        ensures bound { (reads : ℕ) → accesses_left result reads ≤ 1 + reads }
     {
         ExtendOp {
             own,
@@ -62,13 +62,15 @@ impl ExtendOp {
     {
         match self.place {
             ExtendPlace::ExtendClock => Some(Access::Load(Word::Clock)),
-            ExtendPlace::ExtendNote { index, .. } => Some(Access::Load(Word::Meta(notes.at(index).addr))),
+            ExtendPlace::ExtendNote { index, .. } => Some(Access::Load(Word::Meta(
+                notes.at(index).addr,
+            ))),
             ExtendPlace::Ended(_) => None,
         }
     }
 
     /// Takes the word that the access found.
-    #[tactic(auto, using(stm_model::proofs::EvidenceLemmas::is_stale), unfolding(stm_model::specs::After::after_at, stm_model::specs::After::extended, stm_model::specs::Accesses::next_at, stm_model::specs::Accesses::answer_of, stm_model::specs::Evidence::Evidence))]
+    #[tactic(auto, unfolding(stm_model::specs::After::after_at, stm_model::specs::After::extended, stm_model::specs::Accesses::next_at, stm_model::specs::Accesses::answer_of))]
     pub fn take<N: Notes>(&mut self, notes: &N, answer: u64)
         requires along { IsAlong self.old (N.notes notes.now) }
         requires going { IsNone (end_of_extension self.old) }
@@ -76,23 +78,18 @@ impl ExtendOp {
         ensures after { (t : Attempt) (cell left : ℕ) (first : Meta) → t.due ≡ [] → t.notes ≡ N.notes notes.now → IsExtending self.old t →
             after_word (extending self.old cell left first t) answer ≡ extending self.new cell left first t }
         ensures same { (t : Attempt) → IsExtending self.old t → IsExtending self.new t }
-        ensures evidence { IfSome (end_of_extension self.new) (ExtensionShows self.old.own) }
-        ensures falls { looks_left self.new (length (N.notes notes.now)) < looks_left self.old (length (N.notes notes.now)) }
+        ensures falls { accesses_left self.new (length (N.notes notes.now)) < accesses_left self.old (length (N.notes notes.now)) }
     {
         let count = notes.len();
         match self.place {
-            ExtendPlace::ExtendClock => self.go_on(answer, 0, count),
+            ExtendPlace::ExtendClock => self.validate_from(answer, 0, count),
             ExtendPlace::ExtendNote { clock, index } => {
                 let note = notes.at(index);
                 let found = unpack_meta(answer);
                 if found.still_has(self.own, note.version) {
-                    self.go_on(clock, index + 1, count);
+                    self.validate_from(clock, index + 1, count);
                 } else {
-                    self.place = ExtendPlace::Ended(ExtendEnd::Bad(Cause::Stale {
-                        addr: note.addr,
-                        version: note.version,
-                        meta: found,
-                    }));
+                    self.place = ExtendPlace::Ended(ExtendEnd::Bad(note.stale(found)));
                 }
             }
             ExtendPlace::Ended(_) => {}
@@ -100,14 +97,13 @@ impl ExtendOp {
     }
 
     // Of so many notes, those before this index hold good at the clock.
-    fn go_on(&mut self, clock: u64, index: usize, count: usize)
+    fn validate_from(&mut self, clock: u64, index: usize, count: usize)
         requires { index ≤ count }
         ensures along { (notes : List Note) → length notes ≡ count → IsAlong self.new notes }
         ensures after { (t : Attempt) (cell left : ℕ) (first : Meta) → length t.notes ≡ count →
             extend_on t cell left first clock (drop index t.notes) ≡ extending self.new cell left first t }
         ensures own { self.new.own ≡ self.old.own }
-        ensures evidence { IfSome (end_of_extension self.new) (ExtensionShows self.old.own) }
-        ensures looks { looks_left self.new count ≡ count - index }
+        ensures left { accesses_left self.new count ≡ count - index }
     {
         self.place = if index < count {
             ExtendPlace::ExtendNote { clock, index }

@@ -1,14 +1,14 @@
-//! The read of a cell: a look at its metadata, its value, and a second look that has to show the same
-//! version. It is made anew as often as the policy grants looks.
+//! The read of a cell: its meta word and its value are loaded, and then the meta word is validated: it has to
+//! show the same version still. A round that is lost is followed by another, as often as the policy grants one.
 ghost use Rattle.std.specs.Prelude.{◌≡◌, ◌<◌, ◌≤◌, ◌+◌, ◌*◌, [], ℕ, IfSome, IsNone, IsSome, None, Some};
 ghost use Rattle.stm_model.specs.Accesses.{next_access};
 ghost use Rattle.stm_model.specs.After.{after_word, at, read_again, meta_read, validated};
 ghost use Rattle.stm_model.specs.Attempt.{Attempt, ReadValue, ReadMeta};
-ghost use Rattle.stm_model.specs.Evidence.{IsEvident};
 ghost use Rattle.meta_word.specs.declared.meta.Meta.{Meta};
 ghost use Rattle.op_read.specs.declared.read.ReadEnd.TheVariants.{NeedExtension};
 ghost use Rattle.op_read.specs.declared.read.ReadPlace.TheVariants as at_read;
-ghost use Rattle.op_read.specs.Read.{EndShows, IsLoad, IsQuiet, IsReading, IsToExtend, accesses_left, end_of_read, reading};
+ghost use Rattle.op_read.specs.Read.{IsLoad, IsReading, IsToExtend, accesses_left, end_of_read, reading};
+ghost use Rattle.op_read.specs.ReadParts.{Keeps};
 
 use meta_word::unpack_meta;
 use stm_model::{Access, Addr, Cause, Meta, Notes, Word};
@@ -18,13 +18,13 @@ use stm_model::{Access, Addr, Cause, Meta, Notes, Word};
 pub enum ReadEnd {
     /// The value, which is the cell's at this version.
     Got { value: u64, version: u64 },
-    /// The cell's version is past the prefix. The read goes on by `resume` once that was extended.
+    /// The cell's version is past the prefix. The read goes on by `resume` once the prefix was extended.
     NeedExtension { meta: Meta },
     Bad(Cause),
 }
 
 /// Where a read stands.
-#[derive(Clone, Copy, Debug, PartialEq, Eq)]
+#[derive(Clone, Copy)]
 pub enum ReadPlace {
     ReadMeta,
     ReadValue { first: Meta },
@@ -33,7 +33,7 @@ pub enum ReadPlace {
 }
 
 /// The read of a cell that is neither buffered nor noted.
-#[derive(Clone, Copy, Debug, PartialEq, Eq)]
+#[derive(Clone, Copy)]
 pub struct ReadOp {
     pub addr: Addr,
     /// The number of the caller that reads.
@@ -51,7 +51,6 @@ impl ReadOp {
         ensures cell { result.addr ≡ addr }
         ensures going { end_of_read result ≡ None }
         ensures for_attempt { (t : Attempt) → t.own ≡ own → t.prefix ≡ prefix → IsReading result t }
-        ensures quiet { IsQuiet result }
         ensures bound { (reads : ℕ) → accesses_left result reads ≤ (looks + 1) * (4 + reads) }
     {
         ReadOp {
@@ -86,12 +85,10 @@ impl ReadOp {
         ensures after { (t : Attempt) → t.due ≡ [] → IsReading self.old t → after_word (reading self.old t) answer ≡ reading self.new t }
         ensures cell { self.new.addr ≡ self.old.addr }
         ensures same { (t : Attempt) → IsReading self.old t → IsReading self.new t }
-        ensures quiet { IsQuiet self.old → IsQuiet self.new }
-        ensures evidence { IsQuiet self.old → IfSome (end_of_read self.new) (EndShows self.old.own) }
         ensures falls { (reads : ℕ) → accesses_left self.new reads < accesses_left self.old reads }
     {
         match self.place {
-            ReadPlace::ReadMeta => self.look(unpack_meta(answer)),
+            ReadPlace::ReadMeta => self.load_meta(unpack_meta(answer)),
             ReadPlace::ReadValue { first } => {
                 self.place = ReadPlace::Validate {
                     first,
@@ -99,21 +96,18 @@ impl ReadOp {
                 }
             }
             ReadPlace::Validate { first, value } => {
-                self.look_twice(first, value, unpack_meta(answer))
+                self.validate(first, value, unpack_meta(answer))
             }
             ReadPlace::Ended(_) => {}
         }
     }
 
-    // A first look showed this.
-    #[tactic(auto, unfolding(stm_model::specs::After::meta_read, stm_model::specs::Evidence::Evidence))]
-    fn look(&mut self, first: Meta)
+    // The round begins: this meta word was loaded.
+    #[tactic(auto, unfolding(stm_model::specs::After::meta_read))]
+    fn load_meta(&mut self, first: Meta)
         requires { self.old.place ≡ at_read.ReadMeta }
         ensures after { (t : Attempt) → IsReading self.old t → meta_read t self.old.addr.0 self.old.left first ≡ reading self.new t }
-        ensures cell { self.new.addr ≡ self.old.addr }
-        ensures same { (t : Attempt) → IsReading self.old t → IsReading self.new t }
-        ensures quiet { IsQuiet self.old → IsQuiet self.new }
-        ensures evidence { IsQuiet self.old → IfSome (end_of_read self.new) (EndShows self.old.own) }
+        ensures keeps { Keeps self.old self.new }
         ensures falls { (reads : ℕ) → accesses_left self.new reads < accesses_left self.old reads }
     {
         if first.is_changing_by_another(self.own) {
@@ -128,15 +122,12 @@ impl ReadOp {
         }
     }
 
-    // A second look showed this.
-    #[tactic(auto, using(stm_model::proofs::EvidenceLemmas::has_moved), unfolding(stm_model::specs::After::validated, stm_model::specs::Evidence::Evidence))]
-    fn look_twice(&mut self, first: Meta, value: u64, second: Meta)
+    // The meta word was loaded again, as this.
+    #[tactic(auto, unfolding(stm_model::specs::After::validated))]
+    fn validate(&mut self, first: Meta, value: u64, second: Meta)
         requires { self.old.place ≡ at_read.Validate first value }
         ensures after { (t : Attempt) → IsReading self.old t → validated t self.old.addr.0 self.old.left first value second ≡ reading self.new t }
-        ensures cell { self.new.addr ≡ self.old.addr }
-        ensures same { (t : Attempt) → IsReading self.old t → IsReading self.new t }
-        ensures quiet { IsQuiet self.old → IsQuiet self.new }
-        ensures evidence { IsQuiet self.old → IfSome (end_of_read self.new) (EndShows self.old.own) }
+        ensures keeps { Keeps self.old self.new }
         ensures falls { (reads : ℕ) → accesses_left self.new reads < accesses_left self.old reads }
     {
         if second.still_has(self.own, first.version) {
@@ -153,13 +144,10 @@ impl ReadOp {
         }
     }
 
-    // A round is over: one more, or the read is refused.
+    // The round is over: one more, or the read is refused.
     fn end_round(&mut self, cause: Cause)
         ensures after { (t : Attempt) → read_again t self.old.addr.0 self.old.left cause ≡ reading self.new t }
-        ensures cell { self.new.addr ≡ self.old.addr }
-        ensures same { (t : Attempt) → IsReading self.old t → IsReading self.new t }
-        ensures quiet { IsQuiet self.new }
-        ensures evidence { IsEvident self.old.own cause → IfSome (end_of_read self.new) (EndShows self.old.own) }
+        ensures keeps { Keeps self.old self.new }
         ensures falls { (reads : ℕ) → accesses_left self.new reads ≤ self.old.left * (4 + reads) }
     {
         if self.left == 0 {
@@ -178,7 +166,6 @@ impl ReadOp {
         ensures cell { self.new.addr ≡ self.old.addr }
         ensures going { end_of_read self.new ≡ None }
         ensures for_attempt { (t : Attempt) → t.own ≡ self.old.own → t.prefix ≡ prefix → IsReading self.new t }
-        ensures quiet { IsQuiet self.old → IsQuiet self.new }
         ensures falls { (reads : ℕ) → accesses_left self.new reads + 1 + reads ≤ accesses_left self.old reads }
     {
         self.prefix = prefix;

@@ -1,6 +1,6 @@
 use Rattle.std.proofs.Common.{◌<◌, ◌≤◌, length, sym}
 use Rattle.op_commit.proofs.Buffered.{drop-buffered, drop-read, write_of}
-use Rattle.op_commit.proofs.Commits.{looks-at, marks, releases, stores}
+use Rattle.op_commit.proofs.Commits.{loads-note, marks, releases, stores}
 use Rattle.op_commit.proofs.commit.CommitOp.next.Goals as goal
 
 pub returns-in-Mark-clause-access : goal.returns-in-Mark-clause-access
@@ -32,4 +32,4 @@ returns-in-CommitNote-clause-access g c = λ going t nothing commits same.
     let note = c.at-in-CommitNote.result in
     let place = rw c.in-CommitNote.is at c.requires.place in
     let behind : length t.now.writes ≤ index = rw commits.writes place.0 in
-    rw (c.in-CommitNote.is, ← commits.writes) (sym (looks-at t nothing c.in-CommitNote.lost c.in-CommitNote.clock index (length t.now.writes) note (drop-read t.now.writes t.notes index note behind (rw same at c.at-in-CommitNote.ensures))))
+    rw (c.in-CommitNote.is, ← commits.writes) (sym (loads-note t nothing c.in-CommitNote.lost c.in-CommitNote.clock index (length t.now.writes) note (drop-read t.now.writes t.notes index note behind (rw same at c.at-in-CommitNote.ensures))))

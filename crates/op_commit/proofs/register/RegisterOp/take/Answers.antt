@@ -11,7 +11,7 @@ returns-then-still_has-clause-after g c =
     let note = c.at-note.result in
     let own = c.args.self.now.own in
     let still : still_has own note.version (meta_of c.args.answer) ≡ true = rw (sym c.unpack_meta-found.ensures.fields) (sym c.still_has.ensures ∙ c.if-still_has.true) in
-    rw c.in-Note.is (goes-watching notes index note (drop-note notes index note c.at-note.ensures) own c.args.answer still ∙ c.go_on.ensures.after notes (sym c.len-count.ensures))
+    rw c.in-Note.is (goes-watching notes index note (drop-note notes index note c.at-note.ensures) own c.args.answer still ∙ c.watch_from.ensures.after notes (sym c.len-count.ensures))
 
 pub returns-else-still_has-clause-after : goal.returns-else-still_has-clause-after
 returns-else-still_has-clause-after g c =

@@ -1,7 +1,7 @@
 use Rattle.std.proofs.Common.{◌∙◌}
 use Rattle.op_commit.proofs.Noted.{stale}
 use Rattle.op_commit.specs.Acquire.{rounds_left}
-use Rattle.op_commit.proofs.acquire.AcquireOp.look.Goals as goal
+use Rattle.op_commit.proofs.acquire.AcquireOp.load_meta.Goals as goal
 
 pub returns-in-Some-clause-after : goal.returns-in-Some-clause-after
 returns-in-Some-clause-after c = λ t value acquires.
