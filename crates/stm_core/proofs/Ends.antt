@@ -73,13 +73,13 @@ no_final_runs (Some (Rolled cause prefix)) = refl
 due_at_end : (t : Attempt) (rung : Option Addr) → t.now.hooks ≡ [] → ring_for rung ++ run_all (final_runs t.ending t.now.hooks) ≡ ring_for rung
 due_at_end t rung none = ap (λ hooks. ring_for rung ++ run_all (final_runs t.ending hooks)) none ∙ ap (λ dues. ring_for rung ++ dues) (no_final_runs t.ending) ∙ append-nil (ring_for rung)
 
-back_ends_at : (first : ℕ) (rung : Option Addr) (t : Attempt) (end : BackEnd) → t.now.hooks ≡ [] →
-    rollback.backing_at (at_back.Ended end) first true (record t { due = rollback.due_at (at_back.Ended end) true rung t }) ≡ at (record t { phase = Idle; due = ring_for rung }) Ended
-back_ends_at first rung t end none = ap (λ dues. at (record t { phase = Idle; due = dues }) Ended) (due_at_end t rung none)
+back_ends_at : (rung : Option Addr) (t : Attempt) (end : BackEnd) → t.now.hooks ≡ [] →
+    rollback.backing_at (at_back.Ended end) true (record t { due = rollback.due_at (at_back.Ended end) true rung t }) ≡ at (record t { phase = Idle; due = ring_for rung }) Ended
+back_ends_at rung t end none = ap (λ dues. at (record t { phase = Idle; due = dues }) Ended) (due_at_end t rung none)
 
 pub back_ends : (op : BackOp) (t : Attempt) (end : BackEnd) → op.place ≡ at_back.Ended end → op.whole ≡ true → t.now.hooks ≡ [] →
     rollback.backing op (record t { due = rollback.due_by op t }) ≡ at (record t { phase = Idle; due = ring_for op.rung }) Ended
 back_ends op t end place whole none =
-    subst (λ p. rollback.backing_at p op.first op.whole (record t { due = rollback.due_at p op.whole op.rung t }) ≡ at (record t { phase = Idle; due = ring_for op.rung }) Ended) (sym place)
-    (subst (λ w. rollback.backing_at (at_back.Ended end) op.first w (record t { due = rollback.due_at (at_back.Ended end) w op.rung t }) ≡ at (record t { phase = Idle; due = ring_for op.rung }) Ended) (sym whole)
-    (back_ends_at op.first op.rung t end none))
+    subst (λ p. rollback.backing_at p op.whole (record t { due = rollback.due_at p op.whole op.rung t }) ≡ at (record t { phase = Idle; due = ring_for op.rung }) Ended) (sym place)
+    (subst (λ w. rollback.backing_at (at_back.Ended end) w (record t { due = rollback.due_at (at_back.Ended end) w op.rung t }) ≡ at (record t { phase = Idle; due = ring_for op.rung }) Ended) (sym whole)
+    (back_ends_at op.rung t end none))

@@ -32,12 +32,15 @@ unfolding InvariantAt
 holds_so r cells (Read op) holds = (record { made_for = record { own = holds.0.made_for.own; prefix = holds.0.made_for.prefix }; room = holds.0.room }, holds.1)
 holds_so r cells (Extend reading first op) holds =
     (record { made_for = record { own = holds.0.made_for.own }; along = holds.0.along; own = holds.0.own; waits = holds.0.waits; room = holds.0.room }, holds.1)
-holds_so r cells (Acquire op value) holds = (record {
-  made_for = record { own = holds.0.made_for.own; policy = holds.0.made_for.policy; noted = holds.0.made_for.noted };
-  within = holds.0.within;
-  unwritten = holds.0.unwritten;
-  room = holds.0.room;
-}, holds.1)
+holds_so r cells (Acquire op value) holds = (
+  record {
+    made_for = record { own = holds.0.made_for.own; policy = holds.0.made_for.policy; noted = holds.0.made_for.noted };
+    within = holds.0.within;
+    unwritten = holds.0.unwritten;
+    room = holds.0.room;
+  },
+  holds.1,
+)
 holds_so r cells (Commit op) holds = (record { made_for = record { own = holds.0.made_for.own; serial = holds.0.made_for.serial; tries = holds.0.made_for.tries; limit = holds.0.made_for.limit; writes = holds.0.made_for.writes }; along = holds.0.along }, holds.1)
 holds_so r cells (RollBack op ending prepared) holds = (record { made_for = record { own = holds.0.made_for.own; serial = holds.0.made_for.serial }; along = holds.0.along; whole = holds.0.whole }, holds.1)
 holds_so r cells _ holds = holds

@@ -123,13 +123,12 @@ commit_within writes count t (at_commit.Release stamp index) within going = rele
 commit_within writes count t (at_commit.Ended end) within going = absurd (cc going)
 commit_within writes count t _ within going = ((refl, λ dues cells. refl), (refl, λ old is. cc))
 
-back_within : (first : ℕ) (whole : Bool) (t : Attempt) (place : BackPlace) → whole ≡ true → IsNone (rollback.end_at place) →
-    Within (λ t. rollback.backing_at place first whole t) t
-back_within first true t (at_back.Cell index) is going = roll_on_within t (drop index t.now.writes)
-back_within first false t (at_back.Cell index) is going = absurd (cc is)
-back_within first whole t (at_back.Ended end) is going = absurd (cc going)
+back_within : (whole : Bool) (t : Attempt) (place : BackPlace) → whole ≡ true → IsNone (rollback.end_at place) → Within (λ t. rollback.backing_at place whole t) t
+back_within true t (at_back.Cell index) is going = roll_on_within t (drop index t.now.writes)
+back_within false t (at_back.Cell index) is going = absurd (cc is)
+back_within whole t (at_back.Ended end) is going = absurd (cc going)
 
--- ---- where it stands
+-- ---- its state
 
 -- It waits for no word: it waits to be asked, or is over.
 abbrev pub rests_at : State → Bool
@@ -192,5 +191,5 @@ stands r (in_state.Commit op) holds =
     let notes = buffered r.footprint.writes.writes ++ r.footprint.reads.notes in
     let within : commit.IsInPlace op.place op.writes r.settings.clock (length notes) = subst (λ limit. commit.IsInPlace op.place op.writes limit (length notes)) (sym holds.0.made_for.limit) holds.0.along.place in
     acting (base r) (in_state.Commit op) (commit_within op.writes (length notes) (base r) op.place within holds.1)
-stands r (in_state.RollBack op ending prepared) holds = acting (base r) (in_state.RollBack op ending prepared) (back_within op.first op.whole (closing (base r) ending prepared) op.place holds.0.whole holds.1)
+stands r (in_state.RollBack op ending prepared) holds = acting (base r) (in_state.RollBack op ending prepared) (back_within op.whole (closing (base r) ending prepared) op.place holds.0.whole holds.1)
 stands r (in_state.Ended ending) holds = resting (base r) (in_state.Ended ending) refl (refl, λ dues cells. refl) refl

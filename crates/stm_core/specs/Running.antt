@@ -73,7 +73,7 @@ unfoldable pub left_at : State → (reads writes : ℕ) → ℕ
 left_at in_state.Announce reads writes = 2
 left_at in_state.Begin reads writes = 1
 left_at (in_state.Read op) reads writes = read.accesses_left op reads
-left_at (in_state.Extend reading first op) reads writes = read.accesses_left reading reads - (1 + reads) + extension.looks_left op reads
+left_at (in_state.Extend reading first op) reads writes = read.accesses_left reading reads - (1 + reads) + extension.accesses_left op reads
 left_at (in_state.Acquire op value) reads writes = acquire.accesses_left op
 left_at (in_state.Commit op) reads writes = commit.accesses_left op reads + (writes + 1)
 left_at (in_state.RollBack op ending prepared) reads writes = rollback.accesses_left op writes

@@ -23,10 +23,13 @@ returns-else-count-eq0 c =
         numbers = record { own = refl; serial = refl; settings = refl };
         sound = record {
           fits = c.requires.fits;
-          holds = (record {
-            made_for = c.new.ensures.for_attempt _ refl refl refl refl (sym c.len-count.ensures.count);
-            along = c.new.ensures.along _ (omega (arith, many, c.len-count.ensures.count));
-          }, rw c.new.ensures.going refl);
+          holds = (
+            record {
+              made_for = c.new.ensures.for_attempt _ refl refl refl refl (sym c.len-count.ensures.count);
+              along = c.new.ensures.along _ (omega (arith, many, c.len-count.ensures.count));
+            },
+            rw c.new.ensures.going refl,
+          );
         };
       };
     }

@@ -17,10 +17,13 @@ returns-in-Ok c = record {
     numbers = record { own = refl; serial = refl; settings = refl };
     sound = record {
       fits = c.requires.free.fits;
-      holds = (record {
-        made_for = c.new.ensures.for_attempt _ refl refl;
-        room = rw c.new.ensures.cell (record { unnoted = rw c.reserve.ensures.same c.requires.unnoted; room = omega (arith, c.in-Ok.ensures.ok) });
-      }, rw c.new.ensures.going refl);
+      holds = (
+        record {
+          made_for = c.new.ensures.for_attempt _ refl refl;
+          room = rw c.new.ensures.cell (record { unnoted = rw c.reserve.ensures.same c.requires.unnoted; room = omega (arith, c.in-Ok.ensures.ok) });
+        },
+        rw c.new.ensures.going refl,
+      );
     };
   };
 }

@@ -16,12 +16,15 @@ returns-in-Ok c = record {
     numbers = record { own = refl; serial = refl; settings = refl };
     sound = record {
       fits = c.requires.free.fits;
-      holds = (record {
-        made_for = c.new-op.ensures.for_attempt _ refl refl (sym c.noted_version-noted.ensures);
-        within = c.new-op.ensures.within;
-        unwritten = rw (c.new-op.ensures.cell, c.reserve_first_writes.ensures.same) c.requires.unwritten;
-        room = omega (arith, c.in-Ok.ensures.ok);
-      }, rw c.new-op.ensures.going refl);
+      holds = (
+        record {
+          made_for = c.new-op.ensures.for_attempt _ refl refl (sym c.noted_version-noted.ensures);
+          within = c.new-op.ensures.within;
+          unwritten = rw (c.new-op.ensures.cell, c.reserve_first_writes.ensures.same) c.requires.unwritten;
+          room = omega (arith, c.in-Ok.ensures.ok);
+        },
+        rw c.new-op.ensures.going refl,
+      );
     };
   };
 }

@@ -11,9 +11,12 @@ returns-in-Some-Prepared-clause-becomes c = record {
   numbers = record { own = refl; serial = refl; settings = refl };
   sound = record {
     fits = c.requires.free.fits;
-    holds = (record {
-      made_for = c.resume.ensures.same _ (whatever_due _ _ _ c.requires.commits.made_for);
-      along = c.resume.ensures.along _ c.requires.commits.along;
-    }, rw c.resume.ensures.going refl);
+    holds = (
+      record {
+        made_for = c.resume.ensures.same _ (whatever_due _ _ _ c.requires.commits.made_for);
+        along = c.resume.ensures.along _ c.requires.commits.along;
+      },
+      rw c.resume.ensures.going refl,
+    );
   };
 }

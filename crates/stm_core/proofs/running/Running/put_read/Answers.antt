@@ -16,12 +16,15 @@ returns-in-Some-NeedExtension-clause-becomes c =
       numbers = record { own = refl; serial = refl; settings = refl };
       sound = record {
         fits = c.requires.free.fits;
-        holds = (record {
-          made_for = c.new.ensures.for_attempt _ refl;
-          along = c.new.ensures.along _;
-          own = sym c.requires.reads.made_for.own;
-          waits = waits;
-          room = c.requires.reads.room;
-        }, rw c.new.ensures.going refl);
+        holds = (
+          record {
+            made_for = c.new.ensures.for_attempt _ refl;
+            along = c.new.ensures.along _;
+            own = sym c.requires.reads.made_for.own;
+            waits = waits;
+            room = c.requires.reads.room;
+          },
+          rw c.new.ensures.going refl,
+        );
       };
     }

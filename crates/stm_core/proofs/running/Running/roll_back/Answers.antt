@@ -10,10 +10,13 @@ returns-clause-becomes c = record {
   numbers = record { own = refl; serial = refl; settings = refl };
   sound = record {
     fits = c.requires;
-    holds = (record {
-      made_for = c.new.ensures.for_attempt _ refl refl;
-      along = c.new.ensures.to_the_end refl _ (omega arith);
-      whole = c.new.ensures.whole;
-    }, rw c.new.ensures.going refl);
+    holds = (
+      record {
+        made_for = c.new.ensures.for_attempt _ refl refl;
+        along = c.new.ensures.to_the_end refl _ (omega arith);
+        whole = c.new.ensures.whole;
+      },
+      rw c.new.ensures.going refl,
+    );
   };
 }

@@ -11,12 +11,15 @@ returns-in-None c = let made = c.requires.holds.0 in record {
   numbers = record { own = refl; serial = refl; settings = refl };
   sound = record {
     fits = c.requires.fits;
-    holds = (record {
-      made_for = c.take.ensures.same _ made.made_for;
-      along = c.take.ensures.along;
-      own = made.own;
-      waits = made.waits;
-      room = made.room;
-    }, rw (← c.end.ensures, c.in-None.is) refl);
+    holds = (
+      record {
+        made_for = c.take.ensures.same _ made.made_for;
+        along = c.take.ensures.along;
+        own = made.own;
+        waits = made.waits;
+        room = made.room;
+      },
+      rw (← c.end.ensures, c.in-None.is) refl,
+    );
   };
 }

@@ -16,11 +16,14 @@ returns-in-None c = let made = c.requires.holds.0 in record {
   numbers = record { own = refl; serial = refl; settings = refl };
   sound = record {
     fits = c.requires.fits;
-    holds = (record {
-      made_for = whatever_is_due _ _ _ (c.take.ensures.same _ made.made_for);
-      along = rw (← c.written.ensures) c.take.ensures.along;
-      whole = c.take.ensures.whole ∙ made.whole;
-    }, rw (← c.end.ensures, c.in-None.is) refl);
+    holds = (
+      record {
+        made_for = whatever_is_due _ _ _ (c.take.ensures.same _ made.made_for);
+        along = rw (← c.written.ensures) c.take.ensures.along;
+        whole = c.take.ensures.whole ∙ made.whole;
+      },
+      rw (← c.end.ensures, c.in-None.is) refl,
+    );
   };
 }
 
