@@ -64,7 +64,7 @@ fn go(rt: &impl Abort, attempt: &mut Attempt, steps: &[(Next, u64)])
 }
 
 // What the attempt does next is done, and this word is found.
-#[tactic(auto, unfolding(crate::specs::Machine::MakesAccess, crate::specs::Machine::FindsClock, crate::specs::Machine::IsDue))]
+#[tactic(auto)]
 fn answer(rt: &impl Abort, attempt: &mut Attempt, word: u64)
     requires { attempt.old.attempt.settings.clock ≡ 9 }
     ensures { attempt.new.attempt.settings.clock ≡ 9 }
@@ -81,7 +81,7 @@ fn answer(rt: &impl Abort, attempt: &mut Attempt, word: u64)
 }
 
 // The attempt, which waits for it, is asked for something.
-#[tactic(auto, unfolding(crate::specs::Machine::IsToBeAsked, crate::specs::Machine::IsBuilt, stm_model::specs::Moves::MayAsk))]
+#[tactic(auto, unfolding(crate::specs::Machine::IsBuilt, stm_model::specs::Moves::MayAsk))]
 fn ask(rt: &impl Abort, attempt: &mut Attempt, ask: Ask)
     requires { attempt.old.attempt.settings.clock ≡ 9 }
     ensures { attempt.new.attempt.settings.clock ≡ 9 }
