@@ -20,10 +20,10 @@ use Rattle.stm_model.specs.World.{Terms, World, cells_in}
 use Rattle.stm_model.proofs.HeapLemmas.{writes_to-lookup}
 use Rattle.opacity.proofs.Cells.{AlikeAt}
 use Rattle.opacity.proofs.Ends.{gone_on, rolled_open, stopped_open}
-use Rattle.opacity.proofs.Fits.{Fits, IsOpen, goes_on_same, open_facts, open_fits, open_fits_with, sound_with}
+use Rattle.opacity.proofs.Fits.{Fits, IsOpen, goes_on_same, open_facts, open_fits, open_fits_with}
 use Rattle.opacity.proofs.Levels.{HoldsThese, and_not, given_holds, given_safe, gives_level, nest_outer, put_written}
 use Rattle.opacity.proofs.Shown.{Shows, abandon_shown}
-use Rattle.opacity.proofs.Stands.{kept_flying, IsPlain, Follows, Sound}
+use Rattle.opacity.proofs.Stands.{kept_flying, IsPlain, Follows, Sound, sound_levels}
 use Rattle.opacity.proofs.Walks.{keys-append, keys-put_written, writes_to_keys}
 
 -- What is given back goes on as the same attempt.
@@ -34,20 +34,6 @@ given_follows t due here kept (write ∷ behind) begun flies none = record { ser
 
 unwritten : (writes : List Write) (cell : ℕ) → lookup (nat_eq cell) writes ≡ None → writes_to writes cell ≡ false
 unwritten writes cell none = writes_to-lookup writes cell ∙ ap (λ found. is_some found) none
-
--- other levels that nest
-saved_sound : (terms : Terms) (w : World) (p : ℕ) (t : Attempt) (saved : List Book) → Sound terms w p t → LevelsNest (keys_of t.now.writes) saved → Sound terms w p (record t { saved = saved })
-saved_sound terms w p t saved sound nest = record {
-  own = sound.own;
-  serial = sound.serial;
-  limit = sound.limit;
-  prefix = sound.prefix;
-  notes = sound.notes;
-  entry = sound.entry;
-  noted_cells = sound.noted_cells;
-  written_cells = sound.written_cells;
-  levels = nest;
-}
 
 module _ (terms : Terms) (w : World) (p : ℕ) (t : Attempt) (here : Stage) (is_open : IsOpen here) (phase : PhaseAt here t.ending t.phase) (ending : EndingAt here t.ending) (sound : Sound terms w p t) where
   to_open : (there : Stage) → IsOpen there → IsPlain there → SafeStage terms w t there → Fits terms w p (at t here) (at t there)
@@ -86,7 +72,7 @@ module _ (terms : Terms) (w : World) (p : ℕ) (t : Attempt) (here : Stage) (is_
       → Fits terms w p (at t here) (at (record t { saved = saved }) there)
   with_saved saved there then_open shown nest stage =
       open_fits_with terms w p t (record t { saved = saved }) here there is_open then_open shown phase ending
-      (record { serial = refl; phase = refl; ending = refl; prefix = omega arith; writes = λ cell. refl; sound = saved_sound terms w p t saved sound nest })
+      (record { serial = refl; phase = refl; ending = refl; prefix = omega arith; writes = λ cell. refl; sound = sound_levels terms w p t saved sound nest })
       stage
 
   entered : Fits terms w p (at t here) (enter_level t)
@@ -140,7 +126,7 @@ module _ (terms : Terms) (w : World) (p : ℕ) (t : Attempt) (here : Stage) (is_
         ending = refl;
         prefix = omega arith;
         writes = λ cell. refl;
-        sound = sound_with terms w p t t.phase (t.now.hooks ++ (hook, token) ∷ []) t.now.runs t.now.laters t.turn t.ending t.due t.rings t.stage sound;
+        sound = sound;
       })
       tt
   going shown (Later token) may =
@@ -151,7 +137,7 @@ module _ (terms : Terms) (w : World) (p : ℕ) (t : Attempt) (here : Stage) (is_
         ending = refl;
         prefix = omega arith;
         writes = λ cell. refl;
-        sound = sound_with terms w p t t.phase t.now.hooks t.now.runs (t.now.laters ++ token ∷ []) t.turn t.ending t.due t.rings t.stage sound;
+        sound = sound;
       })
       tt
   going shown Finish may = gone_on terms w p t here is_open phase ending sound

@@ -25,7 +25,7 @@ use Rattle.opacity.proofs.Fits.{Fits, ending_is, phase_is, safe_local, safe_seen
 use Rattle.opacity.proofs.ReadSteps.{knows_attempt, knows_clock, same_number}
 use Rattle.opacity.proofs.Samples.{not_written, sampled_all, sampled_more, sampled_start, still_current}
 use Rattle.opacity.proofs.Shown.{all_at, names_checked}
-use Rattle.opacity.proofs.Stands.{kept_flying, IsPlain, Sound, placed, sound_of}
+use Rattle.opacity.proofs.Stands.{kept_flying, IsPlain, Sound, placed, sound_at, sound_of}
 use Rattle.opacity.proofs.Stepping.{stepped}
 
 -- Where it is to be decided, an attempt holds its cells, all of them marked.
@@ -95,20 +95,6 @@ module _ (terms : Terms) (w : World) (p : ℕ) (t : Attempt) (here : Stage) (wei
       marked_all : (phase : Phase) (writes : List Write) → phase ≡ Preparing → [] ≡ (if has_prepared phase then [] else writes)
       marked_all phase writes is = rw is refl
 
-  -- the same attempt at a later prefix
-  later : (clock : ℕ) → WasSampled w t clock [] → Sound terms w p (record t { prefix = clock })
-  later clock sampled = record {
-    own = sound.own;
-    serial = sound.serial;
-    limit = sound.limit;
-    prefix = sampled.high;
-    notes = sampled_all w t clock terms.opening sampled sound.notes;
-    entry = sound.entry;
-    noted_cells = sound.noted_cells;
-    written_cells = sound.written_cells;
-    levels = sound.levels;
-  }
-
   below_limit : (clock limit own : ℕ) → own ≡ limit → clock ≤ limit → nat_eq clock own ≡ false → clock < limit
   below_limit clock limit own is low test = grind (arith, nat_tests)
 
@@ -117,7 +103,7 @@ module _ (terms : Terms) (w : World) (p : ℕ) (t : Attempt) (here : Stage) (wei
   checks lost clock [] some low sampled = go (nat_eq clock t.settings.clock) refl
     where
       go : (b : Bool) → nat_eq clock t.settings.clock ≡ b → Fits terms w p (at t here) (if b then rolled (record t { prefix = clock }) (ClockEnd clock) else at t (Decide lost clock))
-      go true end = rolled_fits terms w p t (record t { prefix = clock }) here (ClockEnd clock) (same_number clock t.settings.clock end, tt) may_roll (later clock sampled) refl refl sampled.low refl
+      go true end = rolled_fits terms w p t (record t { prefix = clock }) here (ClockEnd clock) (same_number clock t.settings.clock end, tt) may_roll (sound_at terms w p t clock sound sampled.high (sampled_all w t clock terms.opening sampled sound.notes)) refl refl sampled.low refl
       go false room = to_weigh (Decide lost clock) tt (some, sampled, below_limit clock terms.limit t.settings.clock sound.limit low room)
   checks lost clock (note ∷ behind) some low sampled = to_weigh (CommitNote lost clock note behind) tt (some, sampled)
 

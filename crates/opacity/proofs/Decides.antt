@@ -17,7 +17,7 @@ use Rattle.stm_model.proofs.HeapLemmas.{over_other}
 use Rattle.stm_model.proofs.HistoryLemmas.{IsLegal-push, entry_after-append, entry_after_push, last-append, last_push, state-append, state_push}
 use Rattle.opacity.proofs.Cells.{AlikeAt, MovesOn, SameCell, cell_same, onward_of, same_of}
 use Rattle.opacity.proofs.Ends.{clash}
-use Rattle.opacity.proofs.Fits.{ending_is, phase_is, sound_with, stage_is}
+use Rattle.opacity.proofs.Fits.{ending_is, phase_is, stage_is}
 use Rattle.opacity.proofs.LawLemmas.{KeepsLaw-push}
 use Rattle.opacity.proofs.Onward.{Continues, Onward, attempt_onward}
 use Rattle.opacity.proofs.Places.{attempt_else, attempt_here, replaced_else, replaced_here}
@@ -307,7 +307,7 @@ module _ (lawful : List ℕ → Type 0) (may : List ℕ → List ℕ → Type 0)
   unfolding EndingAt EndsSo
   own_safe =
       let lifted : SafeAttempt terms after p t = attempt_onward terms w after on p t (safe.attempts p caller) in
-      let sound : Sound terms after p certain = sound_with terms after p t t.phase t.now.hooks t.now.runs t.now.laters t.turn certain.ending due t.rings t.stage (sound_of terms after p t lifted) in
+      let sound : Sound terms after p certain = sound_of terms after p t lifted in
       let before : suc clock - 1 ≡ length w.history = omega (arith, at_end) in
       store_safe terms after p certain (0, 0) [] t.now.writes sound prepares tt
       (omega arith, omega (arith, grown, at_end), rw before entry_new) ([], refl)

@@ -12,7 +12,7 @@ use Rattle.stm_model.specs.Safe.{ClosingPhase, EndingAt, HasBegun, PhaseAt, Safe
 use Rattle.stm_model.specs.World.{Terms, World}
 use Rattle.opacity.proofs.Shown.{Shows, to_shown}
 use Rattle.opacity.proofs.Cells.{AlikeAt}
-use Rattle.opacity.proofs.Fits.{Fits, IsOpen, goes_on_same, open_facts, open_fits, open_fits_with, sound_with}
+use Rattle.opacity.proofs.Fits.{Fits, IsOpen, goes_on_same, open_facts, open_fits, open_fits_with}
 use Rattle.opacity.proofs.Stands.{kept_flying, Follows, Sound, placed}
 
 pub clash : (b : Bool) → b ≡ true → b ≡ false → ⊥
@@ -88,14 +88,14 @@ module _ (terms : Terms) (w : World) (p : ℕ) where
       record {
         alike = λ cell. alike_close t back here from same phase refl cell (sym same ∙ is);
         follows = follows_end t back here Close from tt serial phase prefix;
-        safe = placed terms w p back (sound_with terms w p u u.phase u.now.hooks u.now.runs u.now.laters u.turn back.ending u.due u.rings u.stage sound) (refl, to_shown back cause shown) Close tt (rw phase from.phase) tt tt;
+        safe = placed terms w p back sound (refl, to_shown back cause shown) Close tt (rw phase from.phase) tt tt;
       }
   rolling t u here cause shown from sound serial phase prefix same (write ∷ behind) is =
       let back = record u { ending = Some (Rolled cause u.prefix) } in
       record {
         alike = λ cell. alike_back t back here from same phase refl cell write behind (sym same ∙ is);
         follows = follows_end t back here (RollBack write behind) from tt serial phase prefix;
-        safe = placed terms w p back (sound_with terms w p u u.phase u.now.hooks u.now.runs u.now.laters u.turn back.ending u.due u.rings u.stage sound) (refl, to_shown back cause shown) (RollBack write behind) tt (rw phase from.phase) tt ([], is);
+        safe = placed terms w p back sound (refl, to_shown back cause shown) (RollBack write behind) tt (rw phase from.phase) tt ([], is);
       }
 
   -- It is rolled back, maybe at a later prefix.
@@ -119,7 +119,7 @@ module _ (terms : Terms) (w : World) (p : ℕ) where
         record {
           alike = λ cell. alike_close t over here from refl refl refl cell is;
           follows = follows_end t over here Close from tt refl refl (omega arith);
-          safe = placed terms w p over (sound_with terms w p t t.phase t.now.hooks t.now.runs t.now.laters t.turn over.ending over.due t.rings t.stage sound) refl Close tt ((open_facts here is_open).phase_from t.ending t.phase phase) tt tt;
+          safe = placed terms w p over sound refl Close tt ((open_facts here is_open).phase_from t.ending t.phase phase) tt tt;
         }
     concluded (write ∷ writes) is = open_fits terms w p t t here Prepare is_open tt tt phase ending (goes_on_same terms w p t sound) (omega (arith, ap length is))
 
@@ -134,7 +134,7 @@ module _ (terms : Terms) (w : World) (p : ℕ) where
           ending = refl;
           prefix = omega arith;
           writes = λ cell. refl;
-          sound = sound_with terms w p t t.phase t.now.hooks t.now.runs t.now.laters (suc t.turn) t.ending t.due t.rings t.stage sound;
+          sound = sound;
         })
         tt
 

@@ -4,8 +4,7 @@ use Rattle.meta_word.specs.declared.status.Phase.{Phase}
 use Rattle.meta_word.specs.declared.status.Phase.TheVariants.{Active}
 use Rattle.stm_model.specs.declared.ending.Ending.{Ending}
 use Rattle.stm_model.specs.After.{at}
-use Rattle.stm_model.specs.Attempt.{Attempt, Due, Stage, Write, Announce, Begin, ReleaseLevel, Mark, CommitClock, CommitNote, Decide, StoreValues, Release, RollBack, Close, Ended, cause_at, held_at, unmarked_at, unstored_at, flies_at}
-use Rattle.stm_model.specs.Handlers.{Handlers}
+use Rattle.stm_model.specs.Attempt.{Attempt, Stage, Write, Announce, Begin, ReleaseLevel, Mark, CommitClock, CommitNote, Decide, StoreValues, Release, RollBack, Close, Ended, cause_at, held_at, unmarked_at, unstored_at, flies_at}
 use Rattle.stm_model.specs.Heap.{writes_to}
 use Rattle.stm_model.specs.Safe.{EndingAt, HasBegun, PhaseAt, Safe, SafeAttempt, SafeStage, EndsSo}
 use Rattle.stm_model.specs.World.{IsCaller, Terms, View, World, attempt_of, with_view}
@@ -118,21 +117,6 @@ pub record GoesOn (terms : Terms) (w : World) (p : ℕ) (t u : Attempt) : Type 0
   pub sound : Sound terms w p u
 
 module _ (terms : Terms) (w : World) (p : ℕ) where
-  -- what an attempt stores, comes to, owes to others and registers is no part of what it reads and writes
-  pub sound_with : (t : Attempt) (phase : Phase) (hooks runs : Handlers) (laters : List ℕ) (turn : ℕ) (ending : Option Ending) (due : List Due) (rings : List ℕ) (stage : Stage) → Sound terms w p t
-      → Sound terms w p (record t { phase = phase; now = record t.now { hooks = hooks; runs = runs; laters = laters }; turn = turn; ending = ending; due = due; rings = rings; stage = stage })
-  sound_with t phase hooks runs laters turn ending due rings stage sound = record {
-    own = sound.own;
-    serial = sound.serial;
-    limit = sound.limit;
-    prefix = sound.prefix;
-    notes = sound.notes;
-    entry = sound.entry;
-    noted_cells = sound.noted_cells;
-    written_cells = sound.written_cells;
-    levels = sound.levels;
-  }
-
   pub goes_on_same : (t : Attempt) → Sound terms w p t → GoesOn terms w p t t
   goes_on_same t sound = record { serial = refl; phase = refl; ending = refl; prefix = omega arith; writes = λ cell. refl; sound = sound }
 

@@ -16,7 +16,7 @@ use Rattle.opacity.proofs.Cells.{AlikeAt}
 use Rattle.opacity.proofs.Ends.{clash}
 use Rattle.opacity.proofs.Fits.{ending_is, phase_is, stage_is}
 use Rattle.opacity.proofs.Levels.{HoldsThese, and_not, given_holds, given_safe}
-use Rattle.opacity.proofs.Releases.{due_same, due_sound, held_here, written_cell}
+use Rattle.opacity.proofs.Releases.{due_same, held_here, written_cell}
 use Rattle.opacity.proofs.Stands.{Follows, Sound, placed, sound_of, told_same}
 use Rattle.opacity.proofs.Stepping.{back_close, back_ending, back_stamp, stepped}
 use Rattle.opacity.proofs.Touch.{freed, kept, owner_is, safe_touched}
@@ -52,9 +52,9 @@ back_safe : (terms : Terms) (w : World) (p : ℕ) (t : Attempt) (due : List Due)
     → EndsWith t.now.writes behind → SafeAttempt terms w p (roll_on (record t { due = due }) behind)
 unfolding SafeStage PhaseAt HasBegun
 back_safe terms w p t due write [] sound phase ending so ends =
-    placed terms w p (record t { due = due }) (due_sound terms w p t due sound) (told_same terms w p t (record t { due = due }) (due_same terms w p t due) t.ending so) Close tt phase (back_close write [] t.ending ending) tt
+    placed terms w p (record t { due = due }) sound (told_same terms w p t (record t { due = due }) (due_same terms w p t due) t.ending so) Close tt phase (back_close write [] t.ending ending) tt
 back_safe terms w p t due write (next ∷ behind) sound phase ending so ends =
-    placed terms w p (record t { due = due }) (due_sound terms w p t due sound) (told_same terms w p t (record t { due = due }) (due_same terms w p t due) t.ending so) (RollBack next behind) tt phase
+    placed terms w p (record t { due = due }) sound (told_same terms w p t (record t { due = due }) (due_same terms w p t due) t.ending so) (RollBack next behind) tt phase
     (back_ending write next (next ∷ behind) behind t.ending ending) ends
 
 -- ---- a level
@@ -192,7 +192,7 @@ module _ (lawful : List ℕ → Type 0) (may : List ℕ → List ℕ → Type 0)
       safe_touched lawful may terms w p safe caller cell within meta u stage is
       (λ other apart. given_alike t due kept write behind more undecided other apart)
       (given_follows t due stage kept behind tt refl undecided)
-      (given_safe terms w p (record t { due = due }) kept behind (due_sound terms w p t due (sound_of terms w p t own)) more active undecided)
+      (given_safe terms w p (record t { due = due }) kept behind (sound_of terms w p t own) more active undecided)
       (omega arith) (λ same set. set) (inl stamp)
       (freed lawful may terms w p safe caller cell within meta u refl refl (these.held ∙ out_gone t kept write behind own.entry.writes_apart gives) mine settled.version settled.value)
 

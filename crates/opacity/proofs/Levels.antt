@@ -12,7 +12,7 @@ use Rattle.stm_model.specs.Heap.{put, writes_to}
 use Rattle.stm_model.specs.Safe.{EndingAt, GivesBack, HasBegun, LevelsNest, PhaseAt, SafeAttempt, SafeStage, EndsSo}
 use Rattle.stm_model.specs.World.{Terms, World, cells_in}
 use Rattle.stm_model.proofs.HeapLemmas.{AreWords-put, IsDistinct-put}
-use Rattle.opacity.proofs.Stands.{Sound, placed}
+use Rattle.opacity.proofs.Stands.{Sound, placed, sound_levels, sound_with}
 use Rattle.opacity.proofs.Walks.{distinct_front, keys-put_new, keys-put_written}
 
 -- ---- levels
@@ -37,21 +37,8 @@ module _ (terms : Terms) (w : World) (p : ℕ) (t : Attempt) (sound : Sound term
 
   put_sound : (cell value : ℕ) → value < 2 ^ 64 → All (λ each. each < cells_in terms) (keys_of (put t.now.writes cell value)) → LevelsNest (keys_of (put t.now.writes cell value)) t.saved
       → Sound terms w p (with_write cell value)
-  put_sound cell value word cells levels = record {
-    own = sound.own;
-    serial = sound.serial;
-    limit = sound.limit;
-    prefix = sound.prefix;
-    notes = sound.notes;
-    entry = record {
-      reads_apart = sound.entry.reads_apart;
-      writes_apart = IsDistinct-put t.now.writes cell value sound.entry.writes_apart;
-      words = AreWords-put t.now.writes cell value sound.entry.words word;
-    };
-    noted_cells = sound.noted_cells;
-    written_cells = cells;
-    levels = levels;
-  }
+  put_sound cell value word cells levels =
+      sound_with terms w p t (put t.now.writes cell value) t.saved sound (IsDistinct-put t.now.writes cell value sound.entry.writes_apart) (AreWords-put t.now.writes cell value sound.entry.words word) cells levels
 
   pub put_written : (cell value : ℕ) → value < 2 ^ 64 → writes_to t.now.writes cell ≡ true → Sound terms w p (with_write cell value)
   put_written cell value word written =
@@ -92,32 +79,10 @@ module _ (terms : Terms) (w : World) (p : ℕ) where
   -- the book with which the level began comes back
   returned_sound : (t : Attempt) (saved : List Book) (due : List Due) → Sound terms w p t → LevelsNest (keys_of t.now.writes) saved
       → Sound terms w p (record t { now = returned saved t.now; saved = outer saved; due = due })
-  returned_sound t [] due sound nest = record {
-    own = sound.own;
-    serial = sound.serial;
-    limit = sound.limit;
-    prefix = sound.prefix;
-    notes = sound.notes;
-    entry = sound.entry;
-    noted_cells = sound.noted_cells;
-    written_cells = sound.written_cells;
-    levels = tt;
-  }
-  returned_sound t (former ∷ others) due sound nest = record {
-    own = sound.own;
-    serial = sound.serial;
-    limit = sound.limit;
-    prefix = sound.prefix;
-    notes = sound.notes;
-    entry = record {
-      reads_apart = sound.entry.reads_apart;
-      writes_apart = distinct_front (keys_of former.writes) nest.0.0 (rw nest.0.1 at sound.entry.writes_apart);
-      words = nest.1;
-    };
-    noted_cells = sound.noted_cells;
-    written_cells = All-front (λ cell. cell < cells_in terms) (keys_of former.writes) nest.0.0 (rw nest.0.1 at sound.written_cells);
-    levels = nest.2;
-  }
+  returned_sound t [] due sound nest = sound_levels terms w p t [] sound tt
+  returned_sound t (former ∷ others) due sound nest =
+      sound_with terms w p t former.writes others sound (distinct_front (keys_of former.writes) nest.0.0 (rw nest.0.1 at sound.entry.writes_apart)) nest.1
+      (All-front (λ cell. cell < cells_in terms) (keys_of former.writes) nest.0.0 (rw nest.0.1 at sound.written_cells)) nest.2
 
   pub given_safe : (t : Attempt) (kept behind : List Write) → Sound terms w p t → GivesBack t kept behind → t.phase ≡ Active → t.ending ≡ None → SafeAttempt terms w p (release_level_on t kept behind)
   unfolding SafeStage PhaseAt EndingAt HasBegun EndsSo

@@ -28,6 +28,9 @@ pub mod Events
 pub mod Steps
 pub mod Runs
 pub mod Effects
+pub mod AtRest
+pub mod Knowing
+pub mod KnownEvents
 pub mod Solo
 pub mod Lone
 pub mod LoneSteps

@@ -19,9 +19,9 @@ use Rattle.opacity.proofs.Shown.{Shows, if_shown, if_shows}
 use Rattle.opacity.proofs.Asks.{asked_fits}
 use Rattle.opacity.proofs.Cells.{AlikeAt, alike_refl, same_of}
 use Rattle.opacity.proofs.Ends.{gone_on, rolled_open, stopped_open}
-use Rattle.opacity.proofs.Fits.{Fits, IsOpen, phase_is, safe_local, sound_with}
+use Rattle.opacity.proofs.Fits.{Fits, IsOpen, phase_is, safe_local}
 use Rattle.opacity.proofs.Places.{attempt_else, attempt_here}
-use Rattle.opacity.proofs.Stands.{SameGround, Sound, sound_of, stage_same, told_same}
+use Rattle.opacity.proofs.Stands.{SameGround, Sound, blank_sound, sound_of, stage_same, stands_safe, told_same}
 use Rattle.opacity.proofs.Whole.{OwnSafe, safe_moved}
 
 waits_open : (stage : Stage) → AwaitsAskAt stage → IsOpen stage
@@ -62,22 +62,10 @@ module _ (terms : Terms) (w : World) (p : ℕ) (t : Attempt) (safe : SafeAttempt
       kept = λ kept. rw (stage, ending) at kept;
       undecided = λ kept undecided. rw ending at undecided;
     };
-    safe = record {
-      own = sound.own;
-      serial = sound.serial;
-      limit = sound.limit;
-      prefix = sound.prefix;
-      notes = sound.notes;
-      entry = sound.entry;
-      noted_cells = sound.noted_cells;
-      written_cells = sound.written_cells;
-      levels = sound.levels;
-      phase = rw (stage, ending, phase) safe.phase;
-      ending = rw (stage, ending) safe.ending;
-      ends_so = subst (λ (e : Option Ending). EndsSo w u e) (sym ending) (told_same terms w p t u same t.ending safe.ends_so);
-      refused = if_shown u (cause_at u.stage) (rw (stage, same.own, same.settings, same.notes) (if_shows t (cause_at t.stage) safe.refused));
-      stage = subst (λ (s : Stage). SafeStage terms w u s) (sym stage) (stage_same terms w p t u same t.stage begun_here safe.stage);
-    };
+    safe = stands_safe terms w p u sound (rw (stage, ending, phase) safe.phase) (rw (stage, ending) safe.ending)
+        (subst (λ (e : Option Ending). EndsSo w u e) (sym ending) (told_same terms w p t u same t.ending safe.ends_so))
+        (if_shown u (cause_at u.stage) (rw (stage, same.own, same.settings, same.notes) (if_shows t (cause_at t.stage) safe.refused)))
+        (subst (λ (s : Stage). SafeStage terms w u s) (sym stage) (stage_same terms w p t u same t.stage begun_here safe.stage));
   }
 
   did_fits : (due : List Due) → Fits terms w p t (did_first t due)
@@ -86,34 +74,20 @@ module _ (terms : Terms) (w : World) (p : ℕ) (t : Attempt) (safe : SafeAttempt
       same_ground (record t { now = record t.now { runs = t.now.runs ++ (phase, token) ∷ [] }; due = dues })
       (record { own = refl; serial = refl; settings = refl; prefix = refl; notes = refl; writes = refl; saved = refl }) refl refl refl
       (λ cell. record { held = refl; marked = λ h. refl; unstored = λ h. refl; stamp = λ h. refl })
-      (sound_with terms w p t t.phase t.now.hooks (t.now.runs ++ (phase, token) ∷ []) t.now.laters t.turn t.ending dues t.rings t.stage (sound_of terms w p t safe))
+      (sound_of terms w p t safe)
   did_fits (Ring cell ∷ dues) =
       same_ground (record t { rings = t.rings ++ cell ∷ []; due = dues })
       (record { own = refl; serial = refl; settings = refl; prefix = refl; notes = refl; writes = refl; saved = refl }) refl refl refl
       (λ cell. record { held = refl; marked = λ h. refl; unstored = λ h. refl; stamp = λ h. refl })
-      (sound_with terms w p t t.phase t.now.hooks t.now.runs t.now.laters t.turn t.ending dues (t.rings ++ cell ∷ []) t.stage (sound_of terms w p t safe))
+      (sound_of terms w p t safe)
 
 -- ---- the next attempt
 
 module _ (terms : Terms) (w : World) (p : ℕ) (settings : Settings) where
   begun_safe : (t : Attempt) → t.own ≡ p → settings.clock ≡ terms.limit → t.serial < MAX_SERIAL → SafeAttempt terms w p (begun t settings)
   unfolding SafeStage PhaseAt EndingAt EndsSo IsDistinct cause_at
-  begun_safe t own limit room = record {
-    own = own;
-    serial = omega arith;
-    limit = limit;
-    prefix = omega arith;
-    notes = All-nil (IsCurrent terms.opening w.history 0);
-    entry = record { reads_apart = tt; writes_apart = tt; words = All-nil (λ word. word < 2 ^ 64) };
-    noted_cells = All-nil (λ note. note.addr.0 < cells_in terms);
-    written_cells = All-nil (λ cell. cell < cells_in terms);
-    levels = tt;
-    phase = refl;
-    ending = refl;
-    ends_so = tt;
-    refused = tt;
-    stage = record { notes = refl; now = refl; saved = refl; due = refl };
-  }
+  begun_safe t own limit room =
+      stands_safe terms w p (begun t settings) (rw own (blank_sound terms w p (suc t.serial) settings.clock (omega arith) limit)) refl refl tt tt (record { notes = refl; now = refl; saved = refl; due = refl })
 
   begun_alike : (t : Attempt) (cell : ℕ) → AlikeAt cell (begun t settings) (at t Ended)
   unfolding held_at

@@ -8,37 +8,44 @@ use Rattle.stm_model.specs.declared.ending.Ending.{Ending}
 use Rattle.stm_model.specs.declared.settings.Settings.{Settings}
 use Rattle.stm_model.specs.Accesses.{SetPending, Act, next, next_at, unless_due}
 use Rattle.stm_model.specs.After.{after_at}
-use Rattle.stm_model.specs.Moves.{May, moved}
-use Rattle.stm_model.specs.Attempt.{Announce, Due, Ended, Stage, cause_at}
+use Rattle.stm_model.specs.Moves.{May, MayAll, Move, moved, moved_on}
+use Rattle.stm_model.specs.Attempt.{Announce, Attempt, Due, Ended, Stage, cause_at}
 use Rattle.meta_word.specs.declared.meta.Meta.{Meta}
 use Rattle.stm_model.specs.Safe.{EndingAt, PhaseAt, Safe}
-use Rattle.stm_model.specs.World.{cells_in, clock_after, found, move, seen_after, since_at, with_view, Event, IsCaller, Looks, MayHappen, MayRun, Moves, Steps, Terms, View, Waits, World, attempt_of, happened, look, opened, run, step, words_after}
-use Rattle.opacity.specs.Alone.{EndsByItself, IsLone, IsOwn, IsUndisturbed, LeavesAlone}
+use Rattle.stm_model.specs.World.{cells_in, clock_after, found, move, seen_after, since_at, with_view, Event, IsCaller, Looks, MayHappen, MayRun, Moves, Steps, Terms, View, Waits, World, attempt_of, happened, opened, run, step, words_after}
+use Rattle.opacity.specs.Alone.{AloneAt, EndsByItself, GoesAlone, IsAlone, IsLone, IsOwn, IsUndisturbed, LeavesAlone}
+use Rattle.opacity.specs.Effects.{learn, moved_by}
 use Rattle.opacity.specs.Runs.{MeetAllOwed}
 use Rattle.opacity.proofs.Effects.{event_dooms, others_views}
 use Rattle.opacity.proofs.Fits.{ending_is, phase_is}
 use Rattle.opacity.proofs.LoneSteps.{Then, alone_step}
-use Rattle.opacity.proofs.Places.{attempt_here, replaced_else, replaced_here}
-use Rattle.opacity.proofs.Solo.{GoesAlone, Solo, move_alone}
+use Rattle.opacity.proofs.Places.{attempt_else, attempt_here}
+use Rattle.opacity.proofs.Solo.{move_alone, moves_alone}
 use Rattle.opacity.proofs.Steps.{event_safe}
 use Rattle.opacity.proofs.Stepping.{step_is, stepped_by}
-
--- The caller's attempt is alone in the world.
-pub record IsAlone (w : World) (p : ℕ) : Type 0 where
-  pub lone : IsLone w p
-  pub word : (w.status p).phase ≢ Doomed
-  pub goes : GoesAlone (length w.history) w.meta (attempt_of w p)
 
 -- the caller's view is this one
 own_goes : (u : World) (p : ℕ) (x : View) → GoesAlone (length u.history) u.meta x.attempt → GoesAlone (length u.history) u.meta (attempt_of (with_view u p x) p)
 own_goes u p x goes = rw (attempt_here u p x) goes
 
--- a look changes no attempt
-look_same : (w : World) (q r : ℕ) → attempt_of (look w q) r ≡ attempt_of w r
-look_same w q r = elim (cases_eq r q) [
-  | inl same ↦ rw same (ap (λ (view : View). view.attempt) (replaced_here w.view q (record (w.view q) { seen = w.clock })))
-  | inr other ↦ ap (λ (view : View). view.attempt) (replaced_else w.view q (record (w.view q) { seen = w.clock }) r other)
+-- who learns of more makes no other attempt
+learn_same : (w : World) (q n r : ℕ) → attempt_of (learn w q n) r ≡ attempt_of w r
+learn_same w q n r = elim (cases_eq r q) [
+  | inl same ↦ rw same (attempt_here w q (record (w.view q) { seen = n }))
+  | inr other ↦ attempt_else w q (record (w.view q) { seen = n }) r other
 ]
+
+pub learned_alone : (w : World) (p q n : ℕ) → IsAlone w p → IsAlone (learn w q n) p
+learned_alone w p q n alone = record { lone = λ r other. rw (learn_same w q n r) (alone.lone r other); word = alone.word; goes = rw (learn_same w q n p) alone.goes }
+
+pub moved_alone : (w : World) (p size limit : ℕ) (moves : List Move) → MayAll size limit (attempt_of w p) moves → IsAlone w p → IsAlone (moved_by w p moves) p
+moved_alone w p size limit moves able alone =
+    let x : View = record (w.view p) { attempt = moved_on (attempt_of w p) moves } in
+    record {
+      lone = λ r other. ap (λ (t : Attempt). t.stage) (attempt_else w p x r other) ∙ alone.lone r other;
+      word = alone.word;
+      goes = own_goes w p x (moves_alone (length w.history) w.meta size limit moves (attempt_of w p) able alone.goes);
+    }
 
 module _ (lawful : List ℕ → Type 0) (may : List ℕ → List ℕ → Type 0) (terms : Terms) (w : World) (p : ℕ) (safe : Safe lawful may terms w) (caller : IsCaller terms p) (alone : IsAlone w p) where
   stepped_goes : (stage : Stage) (this : Option Act) → Then lawful may terms w p safe caller alone.lone alone.word alone.goes stage this
@@ -68,18 +75,18 @@ module _ (lawful : List ℕ → Type 0) (may : List ℕ → List ℕ → Type 0)
   event_goes (Moves q this) same able =
       let own = move_alone (length w.history) w.meta (attempt_of w p) alone.goes (cells_in terms) terms.limit this (subst (λ (c : ℕ). May (cells_in terms) terms.limit (attempt_of w c) this) same able.1) in
       subst (λ (c : ℕ). GoesAlone (length w.history) w.meta (attempt_of (move w c this) p)) (sym same) (own_goes w p (record (w.view p) { attempt = moved (attempt_of w p) this }) own)
-  event_goes (Looks q) same able = rw (look_same w q p) alone.goes
+  event_goes (Looks q) same able = rw (learn_same w q w.clock p) alone.goes
   event_goes (Waits q cell) same able =
       subst (λ (c : ℕ). GoesAlone (length w.history) (happened w (Waits c cell)).meta (attempt_of (happened w (Waits c cell)) p)) (sym same)
       (own_goes (words_after w (attempt_of w p) (SetPending cell)) p (record (w.view p) { waits = (w.view p).waits ++ (cell, w.meta cell) ∷ [] })
       (ended_goes (words_after w (attempt_of w p) (SetPending cell)).meta (subst (λ (c : ℕ). (attempt_of w c).stage ≡ Ended) same able.1)))
     where
       ended_goes : (meta : ℕ → Meta) → (attempt_of w p).stage ≡ Ended → GoesAlone (length w.history) meta (attempt_of w p)
-      ended_goes meta is = record { stage = subst (λ (s : Stage). Solo (length w.history) meta (attempt_of w p).prefix s) (sym is) tt; undisturbed = alone.goes.undisturbed }
+      ended_goes meta is = record { stage = subst (λ (s : Stage). AloneAt (length w.history) meta (attempt_of w p).prefix s) (sym is) tt; undisturbed = alone.goes.undisturbed }
 
   lone_then : (event : Event) → LeavesAlone p event → IsLone (happened w event) p
   unfolding LeavesAlone happened
-  lone_then (Looks r) same q other = rw (look_same w r q) (alone.lone q other)
+  lone_then (Looks r) same q other = rw (learn_same w r w.clock q) (alone.lone q other)
   lone_then (Steps r) same q other = ap (λ (view : View). view.attempt.stage) (others_views w (Steps r) q (λ is. other (is ∙ same))) ∙ alone.lone q other
   lone_then (Moves r this) same q other = ap (λ (view : View). view.attempt.stage) (others_views w (Moves r this) q (λ is. other (is ∙ same))) ∙ alone.lone q other
   lone_then (Waits r cell) same q other = ap (λ (view : View). view.attempt.stage) (others_views w (Waits r cell) q (λ is. other (is ∙ same))) ∙ alone.lone q other
@@ -102,7 +109,7 @@ module _ (lawful : List ℕ → Type 0) (may : List ℕ → List ℕ → Type 0)
       (event_alone lawful may terms w p safe caller alone event (All-head (LeavesAlone p) event events leaves) able.0) able.1 meets.1 (All-tail (LeavesAlone p) event events leaves)
 
   -- an attempt that is about to begin
-  begins_alone : (w : World) → Safe lawful may terms w → (attempt_of w p).stage ≡ Announce → IsLone w p → IsAlone w p
+  pub begins_alone : (w : World) → Safe lawful may terms w → (attempt_of w p).stage ≡ Announce → IsLone w p → IsAlone w p
   unfolding EndsByItself PhaseAt EndingAt cause_at
   begins_alone w safe is lone =
       let own = safe.attempts p caller in
@@ -112,7 +119,7 @@ module _ (lawful : List ℕ → Type 0) (may : List ℕ → List ℕ → Type 0)
         lone = lone;
         word = λ doomed. idle_word idle (safe.statuses p caller).phase doomed;
         goes = record {
-          stage = subst (λ (s : Stage). Solo (length w.history) w.meta (attempt_of w p).prefix s) (sym is) tt;
+          stage = subst (λ (s : Stage). AloneAt (length w.history) w.meta (attempt_of w p).prefix s) (sym is) tt;
           undisturbed = record {
             refused = subst (λ (s : Stage). IfSome (cause_at s) IsOwn) (sym is) tt;
             ending = subst (λ (e : Option Ending). EndsByItself e) (sym none) tt;
@@ -131,7 +138,7 @@ module _ (lawful : List ℕ → Type 0) (may : List ℕ → List ℕ → Type 0)
 -- ---- one caller
 
 -- A world that opens leaves each caller alone.
-opened_alone : (terms : Terms) (settings : Settings) (p : ℕ) → IsAlone (opened terms settings) p
+pub opened_alone : (terms : Terms) (settings : Settings) (p : ℕ) → IsAlone (opened terms settings) p
 unfolding EndsByItself cause_at
 opened_alone terms settings p = record {
   lone = λ q other. refl;
@@ -142,7 +149,7 @@ opened_alone terms settings p = record {
 only_one : (terms : Terms) (p : ℕ) → terms.callers ≡ 1 → IsCaller terms p → p ≡ 1
 only_one terms p one caller = omega (arith, one, caller.0, caller.1)
 
-leaves_one : (terms : Terms) (w : World) (event : Event) → terms.callers ≡ 1 → MayHappen terms w event → LeavesAlone 1 event
+pub leaves_one : (terms : Terms) (w : World) (event : Event) → terms.callers ≡ 1 → MayHappen terms w event → LeavesAlone 1 event
 unfolding MayHappen LeavesAlone
 leaves_one terms w (Steps p) one able = only_one terms p one able
 leaves_one terms w (Moves p this) one able = only_one terms p one able.0

@@ -15,13 +15,13 @@ use Rattle.stm_model.specs.Heap.{put}
 use Rattle.stm_model.specs.History.{IsCurrent}
 use Rattle.stm_model.specs.Safe.{EndingAt, IsToRead, IsToWrite, Safe, SafeAttempt, SafeStage, WasSampled}
 use Rattle.stm_model.specs.World.{IsCaller, Terms, World, attempt_of, cells_in, entry_of, found, with_meta, with_status, words_after}
-use Rattle.opacity.specs.Alone.{EndsByItself, IsLone}
+use Rattle.opacity.specs.Alone.{AloneAt, EndsByItself, GoesAlone, IsLone}
 use Rattle.opacity.proofs.Acquires.{nobodys, same_whole}
 use Rattle.opacity.proofs.Fits.{ending_is, stage_is}
 use Rattle.opacity.proofs.Lone.{chosen, not_another, not_changing, not_less, note_now, passed, same_test, still}
 use Rattle.opacity.proofs.ReadSteps.{no_stamp, version_length}
 use Rattle.opacity.proofs.Shown.{all_at, found_note}
-use Rattle.opacity.proofs.Solo.{GoesAlone, Solo, goes_back, goes_check, goes_give_back, goes_mark, goes_plain, goes_release, goes_store}
+use Rattle.opacity.proofs.Solo.{goes_back, goes_check, goes_give_back, goes_mark, goes_plain, goes_release, goes_store}
 use Rattle.opacity.proofs.StatusSteps.{doomed_word}
 
 module _ (lawful : List ℕ → Type 0) (may : List ℕ → List ℕ → Type 0) (terms : Terms) (w : World) (p : ℕ) (safe : Safe lawful may terms w) (caller : IsCaller terms p) (lone : IsLone w p)
@@ -43,8 +43,8 @@ module _ (lawful : List ℕ → Type 0) (may : List ℕ → List ℕ → Type 0)
   Then stage None = Unit {0}
   Then stage (Some this) = GoesAlone (length (words_after w t this).history) (words_after w t this).meta (after_at t stage (found w this))
 
-  solo_is : (stage : Stage) → t.stage ≡ stage → Solo n w.meta t.prefix stage
-  solo_is stage is = subst (λ (s : Stage). Solo n w.meta t.prefix s) is goes.stage
+  solo_is : (stage : Stage) → t.stage ≡ stage → AloneAt n w.meta t.prefix stage
+  solo_is stage is = subst (λ (s : Stage). AloneAt n w.meta t.prefix s) is goes.stage
 
   abbrev Here : Attempt → Type 0
   Here u = GoesAlone n w.meta u

@@ -13,7 +13,7 @@ use Rattle.stm_model.specs.Attempt.{Attempt, Due, Stage, Write, AcquireMeta, Ann
 use Rattle.stm_model.specs.Safe.{EndingAt, EndsWith, GivesBack, Safe, SafeStage, WasTaken, stamp_on}
 use Rattle.stm_model.specs.World.{IsCaller, Terms, World, attempt_of, cells_in}
 use Rattle.stm_model.proofs.HistoryLemmas.{last_within}
-use Rattle.opacity.specs.Words.{BringsWords, FieldsFit, IsOfTable}
+use Rattle.opacity.specs.Words.{BringsWords, FieldsFit, FitsTable, IsOfTable}
 use Rattle.opacity.proofs.GivesBack.{out_there}
 use Rattle.opacity.proofs.Releases.{written_cell}
 use Rattle.opacity.proofs.Shown.{all_at}
@@ -26,11 +26,6 @@ status_fits status below = record { serial = omega (arith, below) }
 
 another_above : (own owner : ℕ) → (not (nat_eq owner 0) && not (nat_eq owner own)) ≡ true → 0 < owner
 another_above own owner test = grind (arith, nat_tests)
-
--- The access is to a word of the table, and its fields fit where it brings words.
-pub record IsGood (terms : Terms) (act : Act) : Type 0 where
-  pub word : IsOfTable terms (word_of (access_of act))
-  pub fields : BringsWords (access_of act) → FieldsFit act
 
 module _ (lawful : List ℕ → Type 0) (may : List ℕ → List ℕ → Type 0) (terms : Terms) (w : World) (p : ℕ) (safe : Safe lawful may terms w) (caller : IsCaller terms p) where
   abbrev t : Attempt
@@ -64,52 +59,52 @@ module _ (lawful : List ℕ → Type 0) (may : List ℕ → List ℕ → Type 0)
   taken : (cell : ℕ) (meta : Meta) → WasTaken terms w t cell meta → IsCaller terms meta.owner
   taken cell meta found = (another_above t.own meta.owner found.another, found.found.owner)
 
-  pub good_at : (stage : Stage) → SafeStage terms w t stage → EndingAt stage t.ending → IfSome (next_at t stage) (IsGood terms)
+  pub fits_at : (stage : Stage) → SafeStage terms w t stage → EndingAt stage t.ending → IfSome (next_at t stage) (FitsTable terms)
   unfolding next_at SafeStage IsOfTable word_of access_of BringsWords FieldsFit
-  good_at Announce is ending = record { word = own_caller; fields = λ brings. record { serial = (safe.attempts p caller).serial } }
-  good_at Begin is ending = record { word = tt; fields = λ brings. tt }
-  good_at (ReadMeta cell left) is ending = record { word = is.in_range; fields = λ brings. tt }
-  good_at (ExtendClock cell left first) is ending = record { word = tt; fields = λ brings. tt }
-  good_at (ExtendNote cell left first clock note behind) is ending = record { word = noted is.3.checked behind note is.3.notes; fields = λ brings. tt }
-  good_at (ReadValue cell left first) is ending = record { word = is.0.in_range; fields = λ brings. tt }
-  good_at (Validate cell left first value) is ending = record { word = is.0.in_range; fields = λ brings. tt }
-  good_at (AcquireMeta cell value left tried) is ending = record { word = is.in_range; fields = λ brings. tt }
-  good_at (Acquire cell value left tried first expected again) is ending =
+  fits_at Announce is ending = record { word = own_caller; fields = λ brings. record { serial = (safe.attempts p caller).serial } }
+  fits_at Begin is ending = record { word = tt; fields = λ brings. tt }
+  fits_at (ReadMeta cell left) is ending = record { word = is.in_range; fields = λ brings. tt }
+  fits_at (ExtendClock cell left first) is ending = record { word = tt; fields = λ brings. tt }
+  fits_at (ExtendNote cell left first clock note behind) is ending = record { word = noted is.3.checked behind note is.3.notes; fields = λ brings. tt }
+  fits_at (ReadValue cell left first) is ending = record { word = is.0.in_range; fields = λ brings. tt }
+  fits_at (Validate cell left first value) is ending = record { word = is.0.in_range; fields = λ brings. tt }
+  fits_at (AcquireMeta cell value left tried) is ending = record { word = is.in_range; fields = λ brings. tt }
+  fits_at (Acquire cell value left tried first expected again) is ending =
       let version : expected.version ≤ MAX_VERSION = omega (arith, is.1.behind, version_fits cell is.0.in_range) in
       record {
         word = is.0.in_range;
         fields = λ brings. (record { owner = omega (arith, is.1.owner, safe.fits.callers); version = version }, record { owner = omega (arith, own_caller.1, safe.fits.callers); version = version });
       }
-  good_at (OwnerStatus cell value left first) is ending = record { word = taken cell first is.1; fields = λ brings. tt }
-  good_at (OwnerMeta cell value left first status) is ending = record { word = is.0.in_range; fields = λ brings. tt }
-  good_at (DoomOwner cell value left first second status) is ending = record {
+  fits_at (OwnerStatus cell value left first) is ending = record { word = taken cell first is.1; fields = λ brings. tt }
+  fits_at (OwnerMeta cell value left first status) is ending = record { word = is.0.in_range; fields = λ brings. tt }
+  fits_at (DoomOwner cell value left first second status) is ending = record {
     word = taken cell first is.1;
     fields = λ brings. let fits = status_fits status brings.0 in (fits, record { serial = fits.serial });
   }
-  good_at (ReleaseLevel kept write behind) is ending = record { word = given kept write behind is; fields = λ brings. tt }
-  good_at Prepare is ending =
+  fits_at (ReleaseLevel kept write behind) is ending = record { word = given kept write behind is; fields = λ brings. tt }
+  fits_at Prepare is ending =
       let serial = (safe.attempts p caller).serial in
       record { word = own_caller; fields = λ brings. (record { serial = serial }, record { serial = serial }) }
-  good_at (Mark write behind) is ending = record { word = walked write behind is; fields = λ brings. tt }
-  good_at (CommitClock lost) is ending = record { word = tt; fields = λ brings. tt }
-  good_at (CommitNote lost clock note behind) is ending = record { word = noted is.1.checked behind note is.1.notes; fields = λ brings. tt }
-  good_at (Decide lost clock) is ending = record { word = tt; fields = λ brings. tt }
-  good_at (StoreValues write behind) is ending = record { word = walked write behind is; fields = λ brings. tt }
-  good_at (Release write behind) is ending =
+  fits_at (Mark write behind) is ending = record { word = walked write behind is; fields = λ brings. tt }
+  fits_at (CommitClock lost) is ending = record { word = tt; fields = λ brings. tt }
+  fits_at (CommitNote lost clock note behind) is ending = record { word = noted is.1.checked behind note is.1.notes; fields = λ brings. tt }
+  fits_at (Decide lost clock) is ending = record { word = tt; fields = λ brings. tt }
+  fits_at (StoreValues write behind) is ending = record { word = walked write behind is; fields = λ brings. tt }
+  fits_at (Release write behind) is ending =
       let stamped : IsStamped w t = stamped_release w t write behind ending (safe.attempts p caller).ends_so in
       record {
         word = walked write behind is;
         fields = λ brings. record { owner = omega arith; version = omega (arith, stamped.high, safe.clock, safe.limit, safe.fits.limit) };
       }
-  good_at (RollBack write behind) is ending = record { word = walked write behind is; fields = λ brings. tt }
-  good_at Close is ending = record { word = own_caller; fields = λ brings. record { serial = (safe.attempts p caller).serial } }
-  good_at stage is ending = tt
+  fits_at (RollBack write behind) is ending = record { word = walked write behind is; fields = λ brings. tt }
+  fits_at Close is ending = record { word = own_caller; fields = λ brings. record { serial = (safe.attempts p caller).serial } }
+  fits_at stage is ending = tt
 
-  good_due : (dues : List Due) → IfSome (next_at t t.stage) (IsGood terms) → IfSome (unless_due dues (next_at t t.stage)) (IsGood terms)
-  good_due [] good = good
-  good_due (due ∷ dues) good = tt
+  fits_due : (dues : List Due) → IfSome (next_at t t.stage) (FitsTable terms) → IfSome (unless_due dues (next_at t t.stage)) (FitsTable terms)
+  fits_due [] good = good
+  fits_due (due ∷ dues) good = tt
 
-  pub good_next : (act : Act) → next t ≡ Some act → IsGood terms act
-  good_next act is =
-      subst (λ (this : Option Act). IfSome this (IsGood terms)) is
-      (good_due t.due (good_at t.stage (safe.attempts p caller).stage (safe.attempts p caller).ending))
+  pub fits_next : (act : Act) → next t ≡ Some act → FitsTable terms act
+  fits_next act is =
+      subst (λ (this : Option Act). IfSome this (FitsTable terms)) is
+      (fits_due t.due (fits_at t.stage (safe.attempts p caller).stage (safe.attempts p caller).ending))

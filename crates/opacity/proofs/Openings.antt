@@ -1,13 +1,14 @@
 -- A world opens safe.
-use Rattle.std.proofs.Common.{◌≡◌, ℕ, ◌<◌, ◌^◌, inl, false, nat_eq, List, [], refl, arith}
+use Rattle.std.proofs.Common.{◌≡◌, ℕ, ◌<◌, inl, false, nat_eq, List, refl, arith}
 use Rattle.std.proofs.lemmas.Bool.Decides.{nat_tests}
 use Rattle.std.proofs.lemmas.List.Elements.{All-nil}
 use Rattle.std.specs.List.{IsDistinct}
 use Rattle.stm_model.specs.declared.settings.Settings.{Settings}
 use Rattle.stm_model.specs.Attempt.{cause_at, held_at}
-use Rattle.stm_model.specs.History.{IsCurrent, IsEntry, state, last}
+use Rattle.stm_model.specs.History.{IsEntry, state, last}
 use Rattle.stm_model.specs.Safe.{Safe, SafeAttempt, SafeCell, SafeStage, TermsFit, PhaseAt, EndingAt, EndsSo, SerialAt}
-use Rattle.stm_model.specs.World.{Terms, attempt_of, cells_in, opened}
+use Rattle.stm_model.specs.World.{Terms, attempt_of, opened}
+use Rattle.opacity.proofs.Stands.{blank_sound, stands_safe}
 
 nobody_holds : (p : ℕ) → 0 < p → false ≡ nat_eq p 0
 nobody_holds p above = grind (arith, nat_tests)
@@ -24,22 +25,9 @@ module _ (terms : Terms) (settings : Settings) where
 
   attempt_opened : settings.clock ≡ terms.limit → (p : ℕ) → SafeAttempt terms (opened terms settings) p (attempt_of (opened terms settings) p)
   unfolding SafeStage PhaseAt EndingAt EndsSo IsDistinct cause_at
-  attempt_opened limit p = record {
-    own = refl;
-    serial = omega arith;
-    limit = limit;
-    prefix = omega arith;
-    notes = All-nil (IsCurrent terms.opening [] 0);
-    entry = record { reads_apart = tt; writes_apart = tt; words = All-nil (λ word. word < 2 ^ 64) };
-    noted_cells = All-nil (λ note. note.addr.0 < cells_in terms);
-    written_cells = All-nil (λ cell. cell < cells_in terms);
-    levels = tt;
-    phase = refl;
-    ending = tt;
-    ends_so = tt;
-    refused = tt;
-    stage = tt;
-  }
+  attempt_opened limit p =
+      let w = opened terms settings in
+      stands_safe terms w p (attempt_of w p) (blank_sound terms w p 0 settings.clock (omega arith) limit) refl tt tt tt tt
 
   pub opened_safe : (lawful : List ℕ → Type 0) (may : List ℕ → List ℕ → Type 0) → TermsFit terms → settings.clock ≡ terms.limit → lawful terms.opening
       → Safe lawful may terms (opened terms settings)

@@ -9,7 +9,7 @@ use Rattle.stm_model.specs.History.{Entry}
 use Rattle.stm_model.specs.Safe.{Safe}
 use Rattle.stm_model.specs.World.{IsCaller, Looks, MayHappen, MeetsOwed, Steps, Terms, View, Waits, World, cells_in, happened, look, place_of, step, step_by, wait, with_meta, with_status, with_view, words_after, world_of}
 use Rattle.stm_model.specs.declared.access.Access.{Access}
-use Rattle.opacity.specs.Plain.{IsUndecided, ShowsSafe}
+use Rattle.opacity.specs.Plain.{IsUndecided, ShowsAccess, ShowsSafe}
 use Rattle.opacity.specs.Words.{BringsWords, FieldsFit, IsOfTable, IsTable, effect, table_after}
 use Rattle.opacity.proofs.Steps.{event_safe}
 use Rattle.opacity.proofs.WordSteps.{shows_after}
@@ -53,7 +53,7 @@ module _ (lawful : List ℕ → Type 0) (may : List ℕ → List ℕ → Type 0)
       let this : packed (Some (ExchangeClock w.clock)) ≡ Some access = ap packed (sym takes) ∙ is in
       subst IsUndecided (sym (same_access (ExchangeClock w.clock) access this)) undecided
 
-  pub step_plain : ShowsSafe lawful may terms (table_after terms words access) history (step w p)
+  step_plain : ShowsSafe lawful may terms (table_after terms words access) history (step w p)
   unfolding MayHappen MeetsOwed happened world_of
   step_plain = record {
     shows = by_act (next (view p).attempt) refl is;
@@ -73,7 +73,7 @@ module _ (lawful : List ℕ → Type 0) (may : List ℕ → List ℕ → Type 0)
   unfolding MayHappen MeetsOwed happened world_of
   look_safe = event_safe lawful may terms here (Looks p) (caller.1, rests) tt safe
 
-  pub look_plain : (access : Access) → access ≡ access_of LoadClock → ShowsSafe lawful may terms (table_after terms words access) history (look here p)
+  look_plain : (access : Access) → access ≡ access_of LoadClock → ShowsSafe lawful may terms (table_after terms words access) history (look here p)
   look_plain access is = rw is (record { shows = look_shown; safe = look_safe })
 
   module _ (cell : ℕ) (within : cell < cells_in terms) where
@@ -86,5 +86,14 @@ module _ (lawful : List ℕ → Type 0) (may : List ℕ → List ℕ → Type 0)
     unfolding MayHappen MeetsOwed happened world_of
     wait_safe = event_safe lawful may terms here (Waits p cell) (caller, rests, within) tt safe
 
-    pub wait_plain : (access : Access) → access ≡ access_of (SetPending cell) → ShowsSafe lawful may terms (table_after terms words access) history (wait here p cell)
+    wait_plain : (access : Access) → access ≡ access_of (SetPending cell) → ShowsSafe lawful may terms (table_after terms words access) history (wait here p cell)
     wait_plain access is = rw is (record { shows = wait_shown; safe = wait_safe })
+
+pub act_plain : (lawful : List ℕ → Type 0) (may : List ℕ → List ℕ → Type 0) (terms : Terms) (words : List ℕ) (history : List Entry) (view : ℕ → View) (p : ℕ)
+    → Safe lawful may terms (world_of terms words history view) → IsTable terms words → IsCaller terms p → (access : Access) → BringsWords access → IsUndecided access
+    → ShowsAccess lawful may terms words (table_after terms words access) history view p access
+act_plain lawful may terms words history view p safe table caller access brings undecided = record {
+  step = λ next. step_plain lawful may terms words history view p access safe table caller brings undecided next;
+  look = λ rests is. look_plain lawful may terms words history view p safe table caller rests access is;
+  wait = λ cell rests within is. wait_plain lawful may terms words history view p safe table caller rests cell within access is;
+}

@@ -22,7 +22,7 @@ use Rattle.opacity.proofs.Ends.{stopped_open}
 use Rattle.opacity.proofs.Fits.{Fits, IsOpen, ending_is, goes_on_same, open_facts, open_fits, phase_is, safe_seen, stage_is}
 use Rattle.opacity.proofs.Samples.{fetched_now, not_written, noted_now, sampled_all, sampled_more, sampled_start, still_current}
 use Rattle.opacity.proofs.Shown.{all_at, Shows, names_checked}
-use Rattle.opacity.proofs.Stands.{IsPlain, Knows, Sound, sound_of}
+use Rattle.opacity.proofs.Stands.{IsPlain, Knows, Sound, sound_at, sound_of}
 use Rattle.opacity.proofs.Stepping.{stepped}
 use Rattle.opacity.proofs.Walks.{among, distinct_push}
 
@@ -80,25 +80,12 @@ module _ (terms : Terms) (w : World) (p : ℕ) (t : Attempt) (here : Stage) (is_
 
   -- ---- an extension
 
-  later_sound : (clock : ℕ) → WasSampled w t clock [] → Sound terms w p (record t { prefix = clock })
-  later_sound clock sampled = record {
-    own = sound.own;
-    serial = sound.serial;
-    limit = sound.limit;
-    prefix = sampled.high;
-    notes = sampled_all w t clock terms.opening sampled sound.notes;
-    entry = sound.entry;
-    noted_cells = sound.noted_cells;
-    written_cells = sound.written_cells;
-    levels = sound.levels;
-  }
-
   extends : (cell left : ℕ) (first : Meta) (clock : ℕ) (behind : List Note) → IsToRead terms t cell → WasSeen w t cell first → first.version ≤ clock → WasSampled w t clock behind
       → Fits terms w p (at t here) (extend_on t cell left first clock behind)
   unfolding SafeStage
   extends cell left first clock [] read seen low sampled =
       open_fits terms w p t (record t { prefix = clock }) here (ReadValue cell left first) is_open tt tt phase ending
-      (record { serial = refl; phase = refl; ending = refl; prefix = sampled.low; writes = λ each. refl; sound = later_sound clock sampled })
+      (record { serial = refl; phase = refl; ending = refl; prefix = sampled.low; writes = λ each. refl; sound = sound_at terms w p t clock sound sampled.high (sampled_all w t clock terms.opening sampled sound.notes) })
       (record { in_range = read.in_range; unwritten = read.unwritten; unnoted = read.unnoted }, record { quiet = seen.quiet; behind = seen.behind }, low)
   extends cell left first clock (note ∷ behind) read seen low sampled = to (ExtendNote cell left first clock note behind) tt tt (read, seen, low, sampled)
 

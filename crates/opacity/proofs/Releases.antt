@@ -11,7 +11,7 @@ use Rattle.stm_model.specs.World.{IsCaller, Terms, World, attempt_of, cells_in, 
 use Rattle.stm_model.proofs.HistoryLemmas.{last_below, same_since_last}
 use Rattle.opacity.proofs.Cells.{AlikeAt}
 use Rattle.opacity.proofs.Ends.{clash}
-use Rattle.opacity.proofs.Fits.{ending_is, phase_is, sound_with, stage_is}
+use Rattle.opacity.proofs.Fits.{ending_is, phase_is, stage_is}
 use Rattle.opacity.proofs.Stands.{Follows, SameGround, Sound, placed, sound_of, told_same}
 use Rattle.opacity.proofs.Stepping.{IsStamped, release_close, release_ending, release_phase, stamped_release, stepped}
 use Rattle.opacity.proofs.Touch.{freed, owner_is, safe_touched}
@@ -37,10 +37,6 @@ release_free t cell [] none = refl
 release_free t cell (next ∷ behind) none = none
 
 module _ (terms : Terms) (w : World) (p : ℕ) where
-  -- what is due is no part of what holds of an attempt
-  pub due_sound : (t : Attempt) (due : List Due) → Sound terms w p t → Sound terms w p (record t { due = due })
-  due_sound t due sound = sound_with terms w p t t.phase t.now.hooks t.now.runs t.now.laters t.turn t.ending due t.rings t.stage sound
-
   pub due_same : (t : Attempt) (due : List Due) → SameGround t (record t { due = due })
   due_same t due = record { own = refl; serial = refl; settings = refl; prefix = refl; notes = refl; writes = refl; saved = refl }
 
@@ -48,9 +44,9 @@ module _ (terms : Terms) (w : World) (p : ℕ) where
       → EndsWith t.now.writes behind → SafeAttempt terms w p (release_on (record t { due = due }) behind)
   unfolding SafeStage PhaseAt HasBegun
   release_safe t due write [] sound phase ending so ends =
-      placed terms w p (record t { due = due }) (due_sound t due sound) (told_same terms w p t (record t { due = due }) (due_same t due) t.ending so) Close tt (release_phase write [] t.ending t.phase ending phase) (release_close write [] t.ending ending) tt
+      placed terms w p (record t { due = due }) sound (told_same terms w p t (record t { due = due }) (due_same t due) t.ending so) Close tt (release_phase write [] t.ending t.phase ending phase) (release_close write [] t.ending ending) tt
   release_safe t due write (next ∷ behind) sound phase ending so ends =
-      placed terms w p (record t { due = due }) (due_sound t due sound) (told_same terms w p t (record t { due = due }) (due_same t due) t.ending so) (Release next behind) tt phase
+      placed terms w p (record t { due = due }) sound (told_same terms w p t (record t { due = due }) (due_same t due) t.ending so) (Release next behind) tt phase
       (release_ending write next (next ∷ behind) behind t.ending ending) ends
 
 unwritten_stamp : (b : Bool) (stamp : ℕ) → b ≡ false → (if b then stamp - 1 else stamp) ≡ stamp

@@ -1,4 +1,4 @@
--- Where an attempt may stand while no other is in flight, and how it goes on from there.
+-- How an attempt goes on alone, from where it may stand while no other is in flight.
 use Rattle.std.proofs.Common.{◌≡◌, ℕ, drop, nat_eq, nat_lt, ◌<◌, ◌++◌, true, false, Bool, Some, None, Option, if◌then◌else◌, IfSome, List, [], ◌∷◌, length, refl, arith, subst, inl, inr}
 use Rattle.std.specs.Map.{lookup}
 use Rattle.meta_word.specs.Policy.{looks}
@@ -10,38 +10,12 @@ use Rattle.stm_model.specs.declared.cause.Cause.TheVariants.{ClockEnd, Full, Mem
 use Rattle.stm_model.specs.declared.ending.Ending.TheVariants.{Rolled}
 use Rattle.stm_model.specs.declared.note.Note.{Note}
 use Rattle.stm_model.specs.After.{at, validate_on, done, release_level_on, mark_on, note_of, release_on, roll_on, rolled, stopped, store_on}
-use Rattle.stm_model.specs.Attempt.{Announce, Begin, Ready, Late, Stopped, ReadMeta, ExtendClock, ExtendNote, ReadValue, Validate, AcquireMeta, Acquire, OwnerStatus, OwnerMeta, DoomOwner, ReleaseLevel, Prepare, Mark, CommitClock, CommitNote, Decide, StoreValues, Release, RollBack, Close, Ended, Attempt, Due, Ring, Run, Stage, Write, cause_at}
+use Rattle.stm_model.specs.Attempt.{Ready, Late, Stopped, ReadMeta, AcquireMeta, ReleaseLevel, Prepare, Mark, CommitClock, CommitNote, Decide, StoreValues, Release, RollBack, Close, Attempt, Due, Ring, Run, Stage, Write, cause_at}
 use Rattle.stm_model.specs.CellsState.{Book, outer}
 use Rattle.stm_model.specs.Heap.{put, writes_to}
-use Rattle.stm_model.specs.Moves.{AwaitsAskAt, Begins, Does, EndsLate, Forgets, OutOfMemory, May, MayAbandon, MayAsk, Move, Takes, asked_at, asked_going, asked_stopped, conclude, did_first, enter_level, go_on, late_over_at, moved, read_buffered, read_noted, turn_to, undo_level, write_cell}
+use Rattle.stm_model.specs.Moves.{AwaitsAskAt, Begins, Does, EndsLate, Forgets, OutOfMemory, May, MayAbandon, MayAll, MayAsk, Move, Takes, asked_at, asked_going, asked_stopped, conclude, did_first, enter_level, go_on, late_over_at, moved, moved_on, read_buffered, read_noted, turn_to, undo_level, write_cell}
 use Rattle.stm_model.specs.Refusing.{IsOfBody, deepest}
-use Rattle.opacity.specs.Alone.{EndsByItself, IsOwn, IsUndisturbed}
-
--- Where an attempt may stand that has this prefix, over so many entries and this metadata: nothing has come between.
-abbrev pub Solo : ℕ → (ℕ → Meta) → ℕ → Stage → Type 0
-Solo n meta prefix Announce = Unit {0}
-Solo n meta prefix Begin = Unit {0}
-Solo n meta prefix (ExtendClock cell left first) = ⊥
-Solo n meta prefix (ExtendNote cell left first clock note behind) = ⊥
-Solo n meta prefix (OwnerStatus cell value left first) = ⊥
-Solo n meta prefix (OwnerMeta cell value left first status) = ⊥
-Solo n meta prefix (DoomOwner cell value left first second status) = ⊥
-Solo n meta prefix (ReadValue cell left first) = (prefix ≡ n) × (first.version ≡ (meta cell).version)
-Solo n meta prefix (Validate cell left first value) = (prefix ≡ n) × (first.version ≡ (meta cell).version)
-Solo n meta prefix (Acquire cell value left tried first expected again) = (prefix ≡ n) × (expected ≡ meta cell)
-Solo n meta prefix (CommitNote lost clock note behind) = (prefix ≡ n) × (clock ≡ n)
-Solo n meta prefix (Decide lost clock) = (prefix ≡ n) × (clock ≡ n)
-Solo n meta prefix (StoreValues write behind) = Unit {0}
-Solo n meta prefix (Release write behind) = Unit {0}
-Solo n meta prefix (RollBack write behind) = Unit {0}
-Solo n meta prefix Close = Unit {0}
-Solo n meta prefix Ended = Unit {0}
-Solo n meta prefix stage = prefix ≡ n
-
--- The attempt stands so, and is undisturbed.
-pub record GoesAlone (n : ℕ) (meta : ℕ → Meta) (t : Attempt) : Type 0 where
-  pub stage : Solo n meta t.prefix t.stage
-  pub undisturbed : IsUndisturbed t
+use Rattle.opacity.specs.Alone.{AloneAt, EndsByItself, GoesAlone, IsOwn}
 
 some_own : (found : Option Cause) (cause : Cause) → found ≡ Some cause → IfSome found IsOwn → IsOwn cause
 some_own found cause is shown = subst (λ (o : Option Cause). IfSome o IsOwn) is shown
@@ -61,7 +35,7 @@ abandon_own t shown cause (inr refused) = some_own (cause_at t.stage) cause refu
 
 module _ (n : ℕ) (meta : ℕ → Meta) (t : Attempt) (calm : EndsByItself t.ending) where
   -- at a stage where nothing was refused
-  pub goes_plain : (stage : Stage) → IfSome (cause_at stage) IsOwn → Solo n meta t.prefix stage → GoesAlone n meta (at t stage)
+  pub goes_plain : (stage : Stage) → IfSome (cause_at stage) IsOwn → AloneAt n meta t.prefix stage → GoesAlone n meta (at t stage)
   goes_plain stage shown solo = record { stage = solo; undisturbed = record { refused = shown; ending = calm } }
 
   pub goes_release : (behind : List Write) → GoesAlone n meta (release_on t behind)
@@ -172,7 +146,7 @@ module _ (n : ℕ) (meta : ℕ → Meta) (t : Attempt) (goes : GoesAlone n meta 
     undisturbed = record { refused = rw stage goes.undisturbed.refused; ending = rw ending goes.undisturbed.ending };
   }
 
-  prefix_here : (stage : Stage) → t.stage ≡ stage → AwaitsAskAt stage → Solo n meta t.prefix stage → t.prefix ≡ n
+  prefix_here : (stage : Stage) → t.stage ≡ stage → AwaitsAskAt stage → AloneAt n meta t.prefix stage → t.prefix ≡ n
   unfolding AwaitsAskAt
   prefix_here (Ready answer) is waits solo = solo
   prefix_here (Late token) is waits solo = solo
@@ -214,3 +188,7 @@ module _ (n : ℕ) (meta : ℕ → Meta) (t : Attempt) (goes : GoesAlone n meta 
   move_alone size limit EndsLate able = late t.stage able.0.stands (prefix_here t.stage refl able.0.stands goes.stage) goes.undisturbed.refused
   move_alone size limit Forgets able = record { stage = tt; undisturbed = record { refused = tt; ending = tt } }
   move_alone size limit (Begins settings) able = record { stage = tt; undisturbed = record { refused = tt; ending = tt } }
+
+pub moves_alone : (n : ℕ) (meta : ℕ → Meta) (size limit : ℕ) (moves : List Move) (t : Attempt) → MayAll size limit t moves → GoesAlone n meta t → GoesAlone n meta (moved_on t moves)
+moves_alone n meta size limit [] t able goes = goes
+moves_alone n meta size limit (this ∷ moves) t able goes = moves_alone n meta size limit moves (moved t this) able.1 (move_alone n meta t goes size limit this able.0)

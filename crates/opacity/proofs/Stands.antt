@@ -1,7 +1,8 @@
 -- What holds of an attempt wherever it stands, and what it takes to stand elsewhere.
-use Rattle.std.proofs.Common.{true, false, IfSome, ◌≡◌, ℕ, ◌<◌, ◌≤◌, Option, Some, None, List, [], ◌∷◌, length, refl, sym, ◌∙◌, arith}
-use Rattle.std.specs.List.{All}
-use Rattle.std.specs.Map.{keys_of}
+use Rattle.std.proofs.Common.{true, false, nat_eq, IfSome, ◌≡◌, ℕ, ◌<◌, ◌^◌, ◌≤◌, Option, Some, None, List, [], ◌∷◌, length, refl, sym, ◌∙◌, arith}
+use Rattle.std.proofs.lemmas.List.Elements.{All-nil}
+use Rattle.std.specs.List.{All, IsDistinct}
+use Rattle.std.specs.Map.{keys_of, values_of}
 use Rattle.meta_word.specs.declared.meta.Meta.{Meta}
 use Rattle.meta_word.specs.declared.status.TheConstants.{MAX_SERIAL}
 use Rattle.stm_model.specs.declared.cause.Cause.{Cause}
@@ -9,24 +10,30 @@ use Rattle.stm_model.specs.declared.ending.Ending.{Ending}
 use Rattle.stm_model.specs.declared.ending.Ending.TheVariants.{Committed, Read, Rolled}
 use Rattle.stm_model.specs.declared.note.Note.{Note}
 use Rattle.stm_model.specs.After.{at}
-use Rattle.stm_model.specs.Attempt.{Ended, Attempt, Stage, Announce, Begin, Stopped, ReadMeta, ExtendClock, ExtendNote, ReadValue, Validate, AcquireMeta, Acquire, OwnerStatus, OwnerMeta, DoomOwner, ReleaseLevel, Prepare, Mark, CommitClock, CommitNote, Decide, StoreValues, Release, RollBack, cause_at, flies_at, stamp_of}
+use Rattle.stm_model.specs.Attempt.{Ended, Attempt, Stage, Write, Announce, Begin, Stopped, ReadMeta, ExtendClock, ExtendNote, ReadValue, Validate, AcquireMeta, Acquire, OwnerStatus, OwnerMeta, DoomOwner, ReleaseLevel, Prepare, Mark, CommitClock, CommitNote, Decide, StoreValues, Release, RollBack, cause_at, flies_at, stamp_of}
+use Rattle.stm_model.specs.CellsState.{Book}
+use Rattle.stm_model.specs.Heap.{AreWords}
 use Rattle.stm_model.specs.History.{IsCurrent, IsEntry}
-use Rattle.stm_model.specs.Safe.{EndingAt, HasBegun, IsKept, IsToRead, IsToWrite, LevelsNest, PhaseAt, SafeAttempt, SafeStage, SafeStatus, SafeView, SerialAt, EndsSo, WasTaken, WasSampled, WasSeen, caller_at, serial_at}
+use Rattle.stm_model.specs.Safe.{EndingAt, HasBegun, IsKept, IsShown, IsToRead, IsToWrite, LevelsNest, PhaseAt, SafeAttempt, SafeStage, SafeStatus, SafeView, SerialAt, EndsSo, WasTaken, WasSampled, WasSeen, caller_at, serial_at}
 use Rattle.stm_model.specs.World.{Terms, View, World, attempt_of, cells_in, entry_of}
 use Rattle.opacity.proofs.Shown.{Shows, from_shown, if_shown, to_shown}
 use Rattle.opacity.proofs.Whole.{OwnSafe}
 
--- what holds of an attempt wherever it stands
-pub record Sound (terms : Terms) (w : World) (p : ℕ) (t : Attempt) : Type 0 where
-  pub own : t.own ≡ p
-  pub serial : t.serial ≤ MAX_SERIAL
-  pub limit : t.settings.clock ≡ terms.limit
-  pub prefix : t.prefix ≤ length w.history
-  pub notes : All (IsCurrent terms.opening w.history t.prefix) t.notes
-  pub entry : IsEntry (entry_of t)
-  pub noted_cells : All (λ note. note.addr.0 < cells_in terms) t.notes
-  pub written_cells : All (λ cell. cell < cells_in terms) (keys_of t.now.writes)
-  pub levels : LevelsNest (keys_of t.now.writes) t.saved
+-- What holds of an attempt wherever it stands, by its number, serial, limit and prefix, what it has read and written, and its levels.
+pub record IsSound (terms : Terms) (w : World) (p number count clock heap : ℕ) (read : List Note) (written : List Write) (books : List Book) : Type 0 where
+  pub own : number ≡ p
+  pub serial : count ≤ MAX_SERIAL
+  pub limit : clock ≡ terms.limit
+  pub prefix : heap ≤ length w.history
+  pub notes : All (IsCurrent terms.opening w.history heap) read
+  pub entry : IsEntry (record { caller = number; serial = count; reads = read; writes = written })
+  pub noted_cells : All (λ note. note.addr.0 < cells_in terms) read
+  pub written_cells : All (λ cell. cell < cells_in terms) (keys_of written)
+  pub levels : LevelsNest (keys_of written) books
+
+-- The rest of it is no part of that: the phase, what it registers, comes to, owes and has rung for, its ending and its stage.
+abbrev pub Sound : Terms → World → ℕ → Attempt → Type 0
+Sound terms w p t = IsSound terms w p t.own t.serial t.settings.clock t.prefix t.notes t.now.writes t.saved
 
 -- Two attempts have in common all that their stages speak of.
 pub record SameGround (t u : Attempt) : Type 0 where
@@ -50,6 +57,72 @@ module _ (terms : Terms) (w : World) (p : ℕ) where
     noted_cells = safe.noted_cells;
     written_cells = safe.written_cells;
     levels = safe.levels;
+  }
+
+  -- what has read and written nothing
+  pub blank_sound : (count clock : ℕ) → count ≤ MAX_SERIAL → clock ≡ terms.limit → IsSound terms w p p count clock 0 [] [] []
+  unfolding IsDistinct
+  blank_sound count clock room limit = record {
+    own = refl;
+    serial = room;
+    limit = limit;
+    prefix = omega arith;
+    notes = All-nil (IsCurrent terms.opening w.history 0);
+    entry = record { reads_apart = tt; writes_apart = tt; words = All-nil (λ word. word < 2 ^ 64) };
+    noted_cells = All-nil (λ note. note.addr.0 < cells_in terms);
+    written_cells = All-nil (λ cell. cell < cells_in terms);
+    levels = tt;
+  }
+
+  -- the same at another prefix
+  pub sound_at : (t : Attempt) (clock : ℕ) → Sound terms w p t → clock ≤ length w.history → All (IsCurrent terms.opening w.history clock) t.notes → Sound terms w p (record t { prefix = clock })
+  sound_at t clock sound low current = record {
+    own = sound.own;
+    serial = sound.serial;
+    limit = sound.limit;
+    prefix = low;
+    notes = current;
+    entry = sound.entry;
+    noted_cells = sound.noted_cells;
+    written_cells = sound.written_cells;
+    levels = sound.levels;
+  }
+
+  -- the same with other writes and levels
+  pub sound_with : (t : Attempt) (writes : List Write) (saved : List Book) → Sound terms w p t → IsDistinct nat_eq (keys_of writes) → AreWords (values_of writes) → All (λ cell. cell < cells_in terms) (keys_of writes)
+      → LevelsNest (keys_of writes) saved → Sound terms w p (record t { now = record t.now { writes = writes }; saved = saved })
+  sound_with t writes saved sound apart words cells levels = record {
+    own = sound.own;
+    serial = sound.serial;
+    limit = sound.limit;
+    prefix = sound.prefix;
+    notes = sound.notes;
+    entry = record { reads_apart = sound.entry.reads_apart; writes_apart = apart; words = words };
+    noted_cells = sound.noted_cells;
+    written_cells = cells;
+    levels = levels;
+  }
+
+  pub sound_levels : (t : Attempt) (saved : List Book) → Sound terms w p t → LevelsNest (keys_of t.now.writes) saved → Sound terms w p (record t { saved = saved })
+  sound_levels t saved sound levels = sound_with t t.now.writes saved sound sound.entry.writes_apart sound.entry.words sound.written_cells levels
+
+  -- What else it takes where it stands.
+  pub stands_safe : (t : Attempt) → Sound terms w p t → PhaseAt t.stage t.ending t.phase → EndingAt t.stage t.ending → EndsSo w t t.ending → IfSome (cause_at t.stage) (IsShown t) → SafeStage terms w t t.stage → SafeAttempt terms w p t
+  stands_safe t sound phase ending so shown stage = record {
+    own = sound.own;
+    serial = sound.serial;
+    limit = sound.limit;
+    prefix = sound.prefix;
+    notes = sound.notes;
+    entry = sound.entry;
+    noted_cells = sound.noted_cells;
+    written_cells = sound.written_cells;
+    levels = sound.levels;
+    phase = phase;
+    ending = ending;
+    ends_so = so;
+    refused = shown;
+    stage = stage;
   }
 
   module _ (t u : Attempt) (same : SameGround t u) where
@@ -120,22 +193,8 @@ module _ (terms : Terms) (w : World) (p : ℕ) where
   -- It may stand at a stage where its phase and its ending may, and what the stage says holds of it, and its cause is shown.
   pub placed_with : (t : Attempt) → Sound terms w p t → EndsSo w t t.ending → (stage : Stage) → HasBegun stage → IfSome (cause_at stage) (Shows t) → PhaseAt stage t.ending t.phase → EndingAt stage t.ending
       → SafeStage terms w t stage → SafeAttempt terms w p (at t stage)
-  placed_with t sound told stage begun shown phase ending safe = record {
-    own = sound.own;
-    serial = sound.serial;
-    limit = sound.limit;
-    prefix = sound.prefix;
-    notes = sound.notes;
-    entry = sound.entry;
-    noted_cells = sound.noted_cells;
-    written_cells = sound.written_cells;
-    levels = sound.levels;
-    phase = phase;
-    ending = ending;
-    ends_so = told_same t (at t stage) (at_same t stage) t.ending told;
-    refused = if_shown (at t stage) (cause_at stage) shown;
-    stage = stage_same t (at t stage) (at_same t stage) stage begun safe;
-  }
+  placed_with t sound told stage begun shown phase ending safe =
+      stands_safe (at t stage) sound phase ending (told_same t (at t stage) (at_same t stage) t.ending told) (if_shown (at t stage) (cause_at stage) shown) (stage_same t (at t stage) (at_same t stage) stage begun safe)
 
 -- A stage that has begun, and at which nothing was refused.
 abbrev pub IsPlain : Stage → Type 0

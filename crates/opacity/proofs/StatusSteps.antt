@@ -18,10 +18,10 @@ use Rattle.stm_model.specs.Safe.{NamesNote, IsKept, EndingAt, EndsSo, HasBegun, 
 use Rattle.stm_model.specs.World.{IsCaller, Terms, View, World, attempt_of, words_after, clock_after, found, replaced, seen_after, since_at, with_status, with_view}
 use Rattle.opacity.proofs.Cells.{AlikeAt}
 use Rattle.opacity.proofs.Ends.{rolled_open}
-use Rattle.opacity.proofs.Fits.{ending_is, phase_is, safe_local, sound_with, stage_is}
+use Rattle.opacity.proofs.Fits.{ending_is, phase_is, safe_local, stage_is}
 use Rattle.opacity.proofs.GivesBack.{mark_safe}
 use Rattle.opacity.proofs.Places.{replaced_else, replaced_here}
-use Rattle.opacity.proofs.Stands.{kept_flying, Sound, placed, serial_to, sound_of, told_same}
+use Rattle.opacity.proofs.Stands.{kept_flying, Sound, placed, serial_to, sound_at, sound_of, stands_safe, told_same}
 use Rattle.opacity.proofs.Stepping.{stepped}
 use Rattle.opacity.proofs.Whole.{KeepsWord, OwnSafe}
 use Rattle.opacity.proofs.OwnWords.{safe_words}
@@ -66,22 +66,8 @@ module _ (lawful : List ℕ → Type 0) (may : List ℕ → List ℕ → Type 0)
   announced_attempt is =
       let blank : IsBlank t = stage_is terms w p Announce own is in
       let none : t.ending ≡ None = ending_is terms w p Announce own is in
-      record {
-        own = own.own;
-        serial = own.serial;
-        limit = own.limit;
-        prefix = own.prefix;
-        notes = own.notes;
-        entry = own.entry;
-        noted_cells = own.noted_cells;
-        written_cells = own.written_cells;
-        levels = own.levels;
-        phase = refl;
-        ending = none;
-        ends_so = subst (λ (e : Option Ending). EndsSo w (at (record t { phase = Active }) Begin) e) (sym none) tt;
-        refused = tt;
-        stage = record { due = blank.due; notes = blank.notes; now = blank.now; saved = blank.saved };
-      }
+      stands_safe terms w p (at (record t { phase = Active }) Begin) sound refl none (subst (λ (e : Option Ending). EndsSo w (at (record t { phase = Active }) Begin) e) (sym none) tt) tt
+      (record { due = blank.due; notes = blank.notes; now = blank.now; saved = blank.saved })
 
   announced : (is : t.stage ≡ Announce) → OwnSafe terms w p (record (w.view p) { attempt = at (record t { phase = Active }) Begin; since = (w.view p).seen }) (active t.serial)
   unfolding HasBegun SerialAt EndingAt flies_at
@@ -111,19 +97,7 @@ module _ (lawful : List ℕ → Type 0) (may : List ℕ → List ℕ → Type 0)
 
   begun_sound : t.stage ≡ Begin → Sound terms w p (record t { prefix = w.clock })
   unfolding SafeStage
-  begun_sound is =
-      let blank : IsBlank t = stage_is terms w p Begin own is in
-      record {
-        own = own.own;
-        serial = own.serial;
-        limit = own.limit;
-        prefix = omega (arith, safe.clock);
-        notes = rw blank.notes (All-nil (IsCurrent terms.opening w.history w.clock));
-        entry = own.entry;
-        noted_cells = own.noted_cells;
-        written_cells = own.written_cells;
-        levels = own.levels;
-      }
+  begun_sound is = let blank : IsBlank t = stage_is terms w p Begin own is in sound_at terms w p t w.clock sound (omega (arith, safe.clock)) (rw blank.notes (All-nil (IsCurrent terms.opening w.history w.clock)))
 
   begun_own : t.stage ≡ Begin → OwnSafe terms w p (record (w.view p) { attempt = done (record t { prefix = w.clock }); seen = w.clock; clock = w.clock }) (w.status p)
   unfolding HasBegun SerialAt EndingAt EndsSo PhaseAt SafeStage flies_at
@@ -171,7 +145,7 @@ module _ (lawful : List ℕ → Type 0) (may : List ℕ → List ℕ → Type 0)
       let begun : HasBegun t.stage = subst (λ (s : Stage). HasBegun s) (sym is) tt in
       let kept : IsKept t.stage t.ending = kept_is Prepare is refl in
       record {
-        attempt = mark_safe terms w p prepares t.now.writes (sound_with terms w p t Preparing t.now.hooks t.now.runs t.now.laters t.turn t.ending prepares.due t.rings t.stage sound) refl none (stage_is terms w p Prepare own is) ([], refl);
+        attempt = mark_safe terms w p prepares t.now.writes sound refl none (stage_is terms w p Prepare own is) ([], refl);
         view = record {
           seen = view.seen;
           since = view.since;
@@ -233,7 +207,7 @@ module _ (lawful : List ℕ → Type 0) (may : List ℕ → List ℕ → Type 0)
       let begun : HasBegun t.stage = subst (λ (s : Stage). HasBegun s) (sym is) tt in
       let kept : IsKept t.stage t.ending = kept_is Close is refl in
       record {
-        attempt = placed terms w p over (sound_with terms w p t Idle t.now.hooks t.now.runs t.now.laters t.turn t.ending over.due t.rings t.stage sound)
+        attempt = placed terms w p over sound
             (told_same terms w p t over (record { own = refl; serial = refl; settings = refl; prefix = refl; notes = refl; writes = refl; saved = refl }) t.ending own.ends_so) Ended tt refl tt tt;
         view = record { seen = view.seen; since = view.since; clock = view.clock; fresh = λ now still. view.fresh begun kept };
         status = record { serial = refl; phase = inl refl };

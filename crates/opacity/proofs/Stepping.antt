@@ -51,24 +51,15 @@ stamped_release w t write behind at so = let is = stamped_by w t write behind t.
 
 pub release_ending : (write other : Write) (behind rest : List Write) (ending : Option Ending) → EndingAt (Release write behind) ending → EndingAt (Release other rest) ending
 unfolding EndingAt
-release_ending write other behind rest None at = at
-release_ending write other behind rest (Some (Committed stamp)) at = at
-release_ending write other behind rest (Some (Read prefix)) at = at
-release_ending write other behind rest (Some (Rolled cause prefix)) at = at
+release_ending write other behind rest ending at = at
 
 pub store_release : (write other : Write) (behind rest : List Write) (ending : Option Ending) → EndingAt (StoreValues write behind) ending → EndingAt (Release other rest) ending
 unfolding EndingAt
-store_release write other behind rest None at = at
-store_release write other behind rest (Some (Committed stamp)) at = at
-store_release write other behind rest (Some (Read prefix)) at = at
-store_release write other behind rest (Some (Rolled cause prefix)) at = at
+store_release write other behind rest ending at = at
 
 pub release_store : (write other : Write) (behind rest : List Write) (ending : Option Ending) → EndingAt (Release write behind) ending → EndingAt (StoreValues other rest) ending
 unfolding EndingAt
-release_store write other behind rest None at = at
-release_store write other behind rest (Some (Committed stamp)) at = at
-release_store write other behind rest (Some (Read prefix)) at = at
-release_store write other behind rest (Some (Rolled cause prefix)) at = at
+release_store write other behind rest ending at = at
 
 pub release_close : (write : Write) (behind : List Write) (ending : Option Ending) → EndingAt (Release write behind) ending → EndingAt Close ending
 unfolding EndingAt
@@ -93,10 +84,7 @@ back_close write behind (Some (Rolled cause prefix)) at = tt
 
 pub back_ending : (write other : Write) (behind rest : List Write) (ending : Option Ending) → EndingAt (RollBack write behind) ending → EndingAt (RollBack other rest) ending
 unfolding EndingAt
-back_ending write other behind rest None at = at
-back_ending write other behind rest (Some (Committed stamp)) at = at
-back_ending write other behind rest (Some (Read prefix)) at = at
-back_ending write other behind rest (Some (Rolled cause prefix)) at = at
+back_ending write other behind rest ending at = at
 
 pub back_stamp : (write : Write) (behind : List Write) (ending : Option Ending) → EndingAt (RollBack write behind) ending → stamp_in ending ≡ 0
 unfolding EndingAt

@@ -1,16 +1,16 @@
 -- An access of an attempt as a step of a table, all at once.
-use Rattle.std.proofs.Common.{◌≡◌, ◌≢◌, ◌⊎◌, ℕ, suc, ◌≤◌, Bool, true, false, nat_eq, if◌then◌else◌, List, [], ◌∷◌, ◌++◌, length, get_or, Option, Some, refl, sym, ap, ◌∙◌, arith, inl, inr}
-use Rattle.stm_model.specs.Accesses.{Act, LoadClock, ExchangeClock, access_of, next}
+use Rattle.std.proofs.Common.{◌≡◌, ◌⊎◌, ℕ, ◌≤◌, List, [], ◌∷◌, ◌++◌, get_or, Some, sym, ap, ◌∙◌, arith}
+use Rattle.stm_model.specs.Accesses.{Act, ExchangeClock, access_of, next}
 use Rattle.stm_model.specs.After.{after, after_found, after_word}
 use Rattle.stm_model.specs.History.{Entry}
 use Rattle.stm_model.specs.Safe.{Safe}
-use Rattle.stm_model.specs.World.{IsCaller, MayHappen, MeetsOwed, Steps, Terms, View, World, attempt_of, entry_of, found, happened, replaced, seen_after, step, step_by, view_after, with_view, words_after, world_of}
+use Rattle.stm_model.specs.World.{IsCaller, MayHappen, MeetsOwed, Steps, Terms, View, World, attempt_of, entry_of, happened, step, step_by, view_after, words_after, world_of}
 use Rattle.opacity.specs.Plain.{IsTableStep}
-use Rattle.opacity.specs.Words.{BringsWords, IsTable, table_after, word_found}
-use Rattle.opacity.proofs.Effects.{others_views, words_view}
-use Rattle.opacity.proofs.NextAccess.{good_next}
+use Rattle.opacity.specs.Words.{BringsWords, IsTable, word_found}
+use Rattle.opacity.proofs.Effects.{others_views}
+use Rattle.opacity.proofs.Knowing.{seen_more}
+use Rattle.opacity.proofs.NextAccess.{fits_next}
 use Rattle.opacity.proofs.Places.{replaced_here}
-use Rattle.opacity.proofs.ReadSteps.{same_number}
 use Rattle.opacity.proofs.Steps.{event_safe}
 use Rattle.opacity.proofs.TableSteps.{step_shown, table_stays}
 use Rattle.opacity.proofs.WordSteps.{found_word, history_after}
@@ -19,17 +19,6 @@ use Rattle.opacity.proofs.WordSteps.{found_word, history_after}
 own_view : (w : World) (p : ℕ) (act : Act) → next (attempt_of w p) ≡ Some act → (step w p).view p ≡ view_after w (w.view p) act
 unfolding step_by
 own_view w p act is = rw is (replaced_here (words_after w (attempt_of w p) act).view p (view_after w (w.view p) act))
-
--- a caller that has seen no more than the clock counts has seen no less after any access
-seen_more : (w : World) (view : View) (act : Act) → view.seen ≤ w.clock → view.seen ≤ seen_after w view act
-unfolding seen_after
-seen_more w view LoadClock low = low
-seen_more w view (ExchangeClock old) low = go (nat_eq w.clock old) refl
-  where
-    go : (b : Bool) → nat_eq w.clock old ≡ b → view.seen ≤ (if b then suc old else view.seen)
-    go true same = omega (arith, low, same_number w.clock old same)
-    go false same = omega arith
-seen_more w view act low = omega arith
 
 seen_low : (lawful : List ℕ → Type 0) (may : List ℕ → List ℕ → Type 0) (terms : Terms) (words : List ℕ) (history : List Entry) (view : ℕ → View) (p : ℕ)
     → (let w = world_of terms words history view in Safe lawful may terms w → IsCaller terms p → (view p).seen ≤ w.clock)
@@ -49,7 +38,7 @@ module _ (lawful : List ℕ → Type 0) (may : List ℕ → List ℕ → Type 0)
   leads : attempt_of (step w p) p ≡ after_word (view p).attempt (word_found terms words (access_of act))
   unfolding world_of
   leads =
-      let good = good_next lawful may terms w p safe caller act is in
+      let good = fits_next lawful may terms w p safe caller act is in
       ap (λ (v : View). v.attempt) own ∙ ap (after (view p).attempt) (found_word terms words history view act good.word)
       ∙ sym (ap (λ o. after_found (view p).attempt o (word_found terms words (access_of act))) is)
 
@@ -60,11 +49,12 @@ module _ (lawful : List ℕ → Type 0) (may : List ℕ → List ℕ → Type 0)
   pub table_step : IsTableStep lawful may terms words history view p act (step w p)
   unfolding world_of happened MayHappen
   table_step =
-      let good = good_next lawful may terms w p safe caller act is in
+      let good = fits_next lawful may terms w p safe caller act is in
       let seen : (view p).seen ≤ w.clock = seen_low lawful may terms words history view p safe caller in
       record {
         word = good.word;
         fits = good.fields brings;
+        own = own;
         attempt = leads;
         others = λ q other. others_views w (Steps p) q other;
         seen = rw own (seen_more w (view p) act seen);

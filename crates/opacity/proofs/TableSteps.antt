@@ -14,7 +14,7 @@ use Rattle.stm_model.specs.declared.access.Access.{Access}
 use Rattle.stm_model.specs.declared.access.Access.TheVariants.{ClearBits, Exchange, Load, SetBits, Store, Swap}
 use Rattle.opacity.specs.Words.{BringsWords, IsTable, effect, table_after, word_found}
 use Rattle.opacity.proofs.Effects.{words_view}
-use Rattle.opacity.proofs.NextAccess.{good_next}
+use Rattle.opacity.proofs.NextAccess.{fits_next}
 use Rattle.opacity.proofs.WordSteps.{shows_after}
 
 found_below : (terms : Terms) (words : List ℕ) (place : ℕ) → IsTable terms words → get_or words place 0 < 2 ^ 64
@@ -54,7 +54,7 @@ step_shown lawful may terms words history view p act safe table caller is brings
     let after = words_after w (view p).attempt act in
     let own = view_after w (view p) act in
     let table_then = table_after terms words (access_of act) in
-    let good = good_next lawful may terms w p safe caller act is in
+    let good = fits_next lawful may terms w p safe caller act is in
     let shows = shows_after terms words history view table (view p).attempt act good.word (good.fields brings) in
     rw is (ap (λ (u : World). with_view u p own) shows
     ∙ ap (λ (views : ℕ → View). world_of terms table_then after.history (replaced views p own)) (sym (words_view w (view p).attempt act)))

@@ -1,10 +1,11 @@
 -- What an event does to the history, to others' views and to status words.
-use Rattle.std.specs.Prelude.{◌≡◌, ℕ, Some}
+use Rattle.std.specs.Prelude.{◌≡◌, ℕ, List, Some}
 use Rattle.meta_word.specs.declared.meta.Meta.{Meta}
 use Rattle.meta_word.specs.declared.status.Phase.TheVariants.{Active}
 use Rattle.meta_word.specs.declared.status.TxnStatus.{TxnStatus}
 use Rattle.stm_model.specs.Accesses.{ExchangeClock, next}
 use Rattle.stm_model.specs.Attempt.{Attempt, DoomOwner}
+use Rattle.stm_model.specs.Moves.{Move, moved_on}
 use Rattle.stm_model.specs.World.{Event, Looks, Moves, Steps, Waits, World, attempt_of, with_view}
 
 -- whose event it is
@@ -33,3 +34,7 @@ pub record IsToDoom (t : Attempt) (owner : ℕ) (status : TxnStatus) : Type 0 wh
 -- A caller has seen the first n entries of the history, as another may tell it.
 abbrev pub learn : World → ℕ → ℕ → World
 learn w p n = with_view w p (record (w.view p) { seen = n })
+
+-- the world after local moves of a caller, one after another
+abbrev pub moved_by : World → ℕ → List Move → World
+moved_by w p moves = with_view w p (record (w.view p) { attempt = moved_on (attempt_of w p) moves })

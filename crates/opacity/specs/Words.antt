@@ -3,7 +3,7 @@ use Rattle.std.specs.Prelude.{◌≡◌, ◌<◌, ◌^◌, ℕ, nat_eq, if◌the
 use Rattle.std.specs.Int.{bit_not, w64}
 use Rattle.meta_word.specs.Meta.{MetaFits}
 use Rattle.meta_word.specs.Status.{StatusFits}
-use Rattle.stm_model.specs.Accesses.{word_of, Act, StoreStatus, SwapMeta, ExchangeMeta, ExchangeStatus}
+use Rattle.stm_model.specs.Accesses.{access_of, word_of, Act, StoreStatus, SwapMeta, ExchangeMeta, ExchangeStatus}
 use Rattle.stm_model.specs.Heap.{AreWords}
 use Rattle.stm_model.specs.World.{IsCaller, Terms, cells_in, place_of, words_in}
 use Rattle.stm_model.specs.declared.access.Access.{Access}
@@ -57,3 +57,8 @@ BringsWords (Swap word new) = new < 2 ^ 64
 BringsWords (Exchange word old new) = (old < 2 ^ 64) × (new < 2 ^ 64)
 BringsWords (SetBits word mask) = mask < 2 ^ 64
 BringsWords (ClearBits word mask) = mask < 2 ^ 64
+
+-- The access goes to a word of the table, and its fields fit where the numbers that it brings are words.
+pub record FitsTable (terms : Terms) (act : Act) : Type 0 where
+  pub word : IsOfTable terms (word_of (access_of act))
+  pub fields : BringsWords (access_of act) → FieldsFit act

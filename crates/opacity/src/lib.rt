@@ -5,7 +5,7 @@ pub mod laws;
 pub mod words;
 mod world;
 
-pub use world::{Committed, World};
+pub use world::{Committed, World, opening_words};
 
 #[cfg(test)]
 mod tests;

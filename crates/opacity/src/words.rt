@@ -1,12 +1,14 @@
 //! The laws of words: what an access does to the words of a table is what it does to the world that they show.
-ghost use Rattle.std.specs.Prelude.{◌≡◌, ◌⊎◌, ◌++◌, ◌∷◌, [], ℕ, List, Some, slice_index};
-ghost use Rattle.opacity.specs.Plain.{IsTableStep};
-ghost use Rattle.opacity.specs.Words.{BringsWords, FieldsFit, IsOfTable, IsTable, table_after, word_found};
-ghost use Rattle.stm_model.specs.Accesses.{Act, ExchangeClock, access_of, answer_of, next, word_of};
+ghost use Rattle.std.specs.Prelude.{◌≡◌, ◌⊎◌, ◌++◌, ◌∷◌, ◌<◌, [], ℕ, IfSome, List, Some, length, slice_index};
+ghost use Rattle.opacity.specs.Plain.{IsTableStep, OpensTo};
+ghost use Rattle.opacity.specs.Alone.{IsAtRest};
+ghost use Rattle.opacity.specs.Words.{BringsWords, FieldsFit, FitsTable, IsOfTable, IsTable, table_after, word_found};
+ghost use Rattle.stm_model.specs.Accesses.{Act, ExchangeClock, access_of, answer_of, next, next_at, value_of_cell, word_of};
 ghost use Rattle.stm_model.specs.Attempt.{Attempt};
-ghost use Rattle.stm_model.specs.History.{Entry};
+ghost use Rattle.stm_model.specs.History.{Entry, state};
 ghost use Rattle.stm_model.specs.Safe.{Safe};
-ghost use Rattle.stm_model.specs.World.{IsCaller, MeetsOwed, Steps, Terms, View, World, attempt_of, entry_of, found, step, words_after, world_of};
+ghost use Rattle.stm_model.specs.World.{IsCaller, MeetsOwed, Steps, Terms, View, World, attempt_of, cells_in, entry_of, found, opened, place_of, step, words_after, world_of};
+ghost use Rattle.stm_model.specs.declared.settings.Settings.{Settings};
 ghost use Rattle.stm_model.specs.declared.access.Access.{Access};
 
 use stm_model::Law;
@@ -30,13 +32,14 @@ pub fn the_words_show_the_world_after()
         ⊎ ((act ≡ ExchangeClock (slice_index words 0)) × (after.history ≡ history ++ entry_of t ∷ []))) }
 {}
 
-/// In a safe world the access that a caller's attempt makes next goes to a word of the table, and the fields
-/// that it expects and puts fit, where the numbers that it brings are words.
+/// In a safe world the access of the stage at which a caller's attempt stands goes to a word of the table, and
+/// the fields that it expects and puts fit, where the numbers that it brings are words. That access is the
+/// next one, unless something is due first.
 pub fn a_next_access_fits<L: Law>()
-    ensures word { (law : L) (terms : Terms) (w : World) (p : ℕ) (act : Act) → Safe (L.lawful law) (L.may law) terms w → IsCaller terms p →
-        next (attempt_of w p) ≡ Some act → IsOfTable terms (word_of (access_of act)) }
-    ensures fields { (law : L) (terms : Terms) (w : World) (p : ℕ) (act : Act) → Safe (L.lawful law) (L.may law) terms w → IsCaller terms p →
-        next (attempt_of w p) ≡ Some act → BringsWords (access_of act) → FieldsFit act }
+    ensures stage { (law : L) (terms : Terms) (w : World) (p : ℕ) → Safe (L.lawful law) (L.may law) terms w → IsCaller terms p →
+        IfSome (next_at (attempt_of w p) (attempt_of w p).stage) (FitsTable terms) }
+    ensures next { (law : L) (terms : Terms) (w : World) (p : ℕ) (act : Act) → Safe (L.lawful law) (L.may law) terms w → IsCaller terms p →
+        next (attempt_of w p) ≡ Some act → FitsTable terms act }
 {}
 
 /// A table stays one.
@@ -61,4 +64,19 @@ pub fn an_access_is_a_step_of_the_table<L: Law>()
         (let w = world_of terms words history view in Safe (L.lawful law) (L.may law) terms w → IsTable terms words → IsCaller terms p →
         next (view p).attempt ≡ Some act → BringsWords (access_of act) → MeetsOwed (L.lawful law) (L.may law) terms w (Steps p) →
         IsTableStep (L.lawful law) (L.may law) terms words history view p act (step w p)) }
+{}
+
+/// The words with which a table opens are those of a table, and they show the world as it opens.
+pub fn an_opening_table_shows_the_opened_world()
+    ensures table { (terms : Terms) (words : List ℕ) → OpensTo terms.opening terms.callers (length terms.opening) words → IsTable terms words }
+    ensures shows { (terms : Terms) (settings : Settings) (words : List ℕ) → OpensTo terms.opening terms.callers (length terms.opening) words →
+        world_of terms words [] (opened terms settings).view ≡ opened terms settings }
+{}
+
+/// Where nobody has an attempt in flight, the value words of a table that shows a safe world are the last heap
+/// of its history.
+pub fn a_table_at_rest_holds_the_last_heap<L: Law>()
+    ensures { (law : L) (terms : Terms) (words : List ℕ) (history : List Entry) (view : ℕ → View) (cell : ℕ) →
+        (let w = world_of terms words history view in Safe (L.lawful law) (L.may law) terms w → IsAtRest terms w → cell < cells_in terms →
+        slice_index words (place_of terms.callers (value_of_cell cell)) ≡ slice_index (state terms.opening history (length history)) cell) }
 {}

@@ -1,7 +1,7 @@
 //! The world as plain data.
 ghost use Rattle.std.specs.Prelude.{◌≡◌, ◌+◌, ◌*◌, ◌<◌, ◌^◌, ◌≤◌, ◌++◌, ◌∷◌, ◌≢◌, ℕ, List, [], IfOk, OnErr, OnOk, Some, length, slice_index, slice_set, vec_capacity, IsOk};
 ghost use Rattle.meta_word.specs.declared.meta.TheConstants.{MAX_OWNER, MAX_VERSION};
-ghost use Rattle.opacity.specs.Plain.{HasRoom, AreAttempts, IsUndecided, OpensTo, ShowsSafe, entry_in, history_of, terms_of, writes_in};
+ghost use Rattle.opacity.specs.Plain.{AreAttempts, HasRoom, MayDecide, IsUndecided, OpensTo, ShowsAccess, ShowsSafe, entry_by, entry_in, history_of, terms_of, writes_in};
 ghost use Rattle.opacity.specs.Words.{BringsWords, IsOfTable, effect, table_after, word_found};
 ghost use Rattle.stm_model.specs.Accesses.{LoadClock, SetPending, ExchangeClock, access_of, next, next_access, word_of};
 ghost use Rattle.stm_model.specs.Attempt.{Ended};
@@ -66,7 +66,7 @@ fn made(access: Access, found: u64) -> u64
 }
 
 /// The words of a table of these values, before any access.
-fn opening_words(alloc: Global, callers: u16, opening: &[u64]) -> Result<Vec<u64>, Memory>
+pub fn opening_words(alloc: Global, callers: u16, opening: &[u64]) -> Result<Vec<u64>, Memory>
     requires { length opening.now < 2 ^ 32 }
     ensures { IfOk result (λ words. OpensTo opening.now callers (length opening.now) words.items) }
 {
@@ -116,6 +116,8 @@ fn written<W: Notes>(room: Vec<(u32, u64)>, writes: &W) -> Result<Vec<(u32, u64)
 }
 
 impl<L: Law + Drop> World<L> {
+    ghost use Rattle.opacity.specs.World.{Commits, IsFresh, KeepsHistory, KeepsTable, KeepsTerms, kept_terms};
+
     /// The world as it opens over a heap that may be committed.
     pub fn new(
         alloc: Global,
@@ -128,15 +130,9 @@ impl<L: Law + Drop> World<L> {
         requires callers { callers ≤ MAX_OWNER }
         requires limit { limit ≤ MAX_VERSION }
         requires lawful { L.lawful law opening.now }
-        ensures law { IfOk result (λ world. world.law ≡ law) }
-        ensures opening { IfOk result (λ world. world.opening.items ≡ opening.now) }
-        ensures callers { IfOk result (λ world. world.callers ≡ callers) }
-        ensures limit { IfOk result (λ world. world.limit ≡ limit) }
-        ensures history { IfOk result (λ world. world.history.items ≡ []) }
-        ensures opens { IfOk result (λ world. (settings : Settings) → (let terms = terms_of opening.now callers limit in
-            world_of terms world.words.items [] (opened terms settings).view ≡ opened terms settings)) }
-        ensures safe { IfOk result (λ world. (settings : Settings) → settings.clock ≡ limit → (let terms = terms_of opening.now callers limit in
-            Safe (L.lawful law) (L.may law) terms (world_of terms world.words.items [] (opened terms settings).view))) }
+        ensures fresh { IfOk result (λ world. IsFresh world law opening.now callers limit) }
+        ensures opens { IfOk result (λ world. (settings : Settings) → settings.clock ≡ limit → (let terms = terms_of opening.now callers limit in
+            ShowsSafe (L.lawful law) (L.may law) terms world.words.items [] (opened terms settings))) }
     {
         let words = opening_words(alloc, callers, opening)?;
         let opening = opening.to_vec(alloc)?;
@@ -154,7 +150,7 @@ impl<L: Law + Drop> World<L> {
 
     #[tactic(auto, unfolding(crate::specs::Words::IsOfTable, stm_model::specs::World::place_of))]
     fn place(&self, word: Word) -> usize
-        requires { IsOfTable (terms_of self.now.opening.items self.now.callers self.now.limit) word }
+        requires { IsOfTable (kept_terms self.now) word }
         ensures place { result ≡ place_of self.now.callers word }
         ensures within { result < length self.now.words.items }
     {
@@ -169,7 +165,7 @@ impl<L: Law + Drop> World<L> {
 
     /// A word as it stands.
     pub fn word(&self, word: Word) -> u64
-        requires { IsOfTable (terms_of self.now.opening.items self.now.callers self.now.limit) word }
+        requires { IsOfTable (kept_terms self.now) word }
         ensures { result ≡ slice_index self.now.words.items (place_of self.now.callers word) }
     {
         self.words[self.place(word)]
@@ -184,16 +180,11 @@ impl<L: Law + Drop> World<L> {
 
     /// Makes an access to a word of the table, and gives the word that it found.
     fn access(&mut self, access: Access) -> u64
-        requires { IsOfTable (terms_of self.old.opening.items self.old.callers self.old.limit) (word_of access) }
+        requires { IsOfTable (kept_terms self.old) (word_of access) }
         ensures brings { BringsWords access }
         ensures found { result ≡ slice_index self.old.words.items (place_of self.old.callers (word_of access)) }
-        ensures words { self.new.words.items ≡ table_after (terms_of self.old.opening.items self.old.callers self.old.limit) self.old.words.items access }
-        ensures history { self.new.history ≡ self.old.history }
-        ensures spare { self.new.spare ≡ self.old.spare }
-        ensures law { self.new.law ≡ self.old.law }
-        ensures opening { self.new.opening ≡ self.old.opening }
-        ensures callers { self.new.callers ≡ self.old.callers }
-        ensures limit { self.new.limit ≡ self.old.limit }
+        ensures words { self.new.words.items ≡ table_after (kept_terms self.old) self.old.words.items access }
+        ensures keeps { KeepsHistory self.old self.new }
     {
         let place = self.place(access.word());
         let found = self.words[place];
@@ -205,29 +196,15 @@ impl<L: Law + Drop> World<L> {
     /// words show afterwards, with the history and the views after the step, is the world after it, and safe.
     /// A caller that has none in flight may look at the clock, or wait for a cell.
     pub fn act<V: Shown>(&mut self, caller: u16, access: Access, attempts: &[V]) -> u64
-        requires caller { IsCaller (terms_of self.old.opening.items self.old.callers self.old.limit) caller }
-        requires word { IsOfTable (terms_of self.old.opening.items self.old.callers self.old.limit) (word_of access) }
+        requires caller { IsCaller (kept_terms self.old) caller }
+        requires word { IsOfTable (kept_terms self.old) (word_of access) }
         requires undecided { IsUndecided access }
-        ensures found { result ≡ word_found (terms_of self.old.opening.items self.old.callers self.old.limit) self.old.words.items access }
-        ensures words { self.new.words.items ≡ table_after (terms_of self.old.opening.items self.old.callers self.old.limit) self.old.words.items access }
-        ensures history { self.new.history ≡ self.old.history }
-        ensures spare { self.new.spare ≡ self.old.spare }
-        ensures law { self.new.law ≡ self.old.law }
-        ensures opening { self.new.opening ≡ self.old.opening }
-        ensures callers { self.new.callers ≡ self.old.callers }
-        ensures limit { self.new.limit ≡ self.old.limit }
-        ensures step { (history : List Entry) (view : ℕ → View) → AreAttempts V.shows self.old.callers attempts.now view →
-            (let terms = terms_of self.old.opening.items self.old.callers self.old.limit in let w = world_of terms self.old.words.items history view in
-            Safe (L.lawful self.old.law) (L.may self.old.law) terms w → next_access (view caller).attempt ≡ Some access →
-            ShowsSafe (L.lawful self.old.law) (L.may self.old.law) terms self.new.words.items history (step w caller)) }
-        ensures look { (history : List Entry) (view : ℕ → View) → AreAttempts V.shows self.old.callers attempts.now view →
-            (let terms = terms_of self.old.opening.items self.old.callers self.old.limit in let w = world_of terms self.old.words.items history view in
-            Safe (L.lawful self.old.law) (L.may self.old.law) terms w → (view caller).attempt.stage ≡ Ended → access ≡ access_of LoadClock →
-            ShowsSafe (L.lawful self.old.law) (L.may self.old.law) terms self.new.words.items history (look w caller)) }
-        ensures wait { (history : List Entry) (view : ℕ → View) (cell : ℕ) → AreAttempts V.shows self.old.callers attempts.now view →
-            (let terms = terms_of self.old.opening.items self.old.callers self.old.limit in let w = world_of terms self.old.words.items history view in
-            Safe (L.lawful self.old.law) (L.may self.old.law) terms w → (view caller).attempt.stage ≡ Ended → cell < cells_in terms → access ≡ access_of (SetPending cell) →
-            ShowsSafe (L.lawful self.old.law) (L.may self.old.law) terms self.new.words.items history (wait w caller cell)) }
+        ensures found { result ≡ word_found (kept_terms self.old) self.old.words.items access }
+        ensures words { self.new.words.items ≡ table_after (kept_terms self.old) self.old.words.items access }
+        ensures keeps { KeepsHistory self.old self.new }
+        ensures shows { (history : List Entry) (view : ℕ → View) → AreAttempts V.shows self.old.callers attempts.now view →
+            Safe (L.lawful self.old.law) (L.may self.old.law) (kept_terms self.old) (world_of (kept_terms self.old) self.old.words.items history view) →
+            ShowsAccess (L.lawful self.old.law) (L.may self.old.law) (kept_terms self.old) self.old.words.items self.new.words.items history view caller access }
     {
         self.access(access)
     }
@@ -241,9 +218,9 @@ impl<L: Law + Drop> World<L> {
         reads: &N,
         writes: &W,
     ) -> Result<Committed, Memory>
-        requires { IsCaller (terms_of self.now.opening.items self.now.callers self.now.limit) caller }
+        requires { IsCaller (kept_terms self.now) caller }
         ensures succeeds { length (N.notes reads.now) ≤ vec_capacity spare.reads → length (W.notes writes.now) ≤ vec_capacity spare.writes → IsOk result }
-        ensures entry { IfOk result (λ kept. entry_in kept ≡ record { caller = caller; serial = (status_of (slice_index self.now.words.items caller)).serial; reads = N.notes reads.now; writes = writes_in (W.notes writes.now) }) }
+        ensures entry { IfOk result (λ kept. entry_in kept ≡ entry_by self.now.words.items caller (N.notes reads.now) (W.notes writes.now)) }
     {
         let reads = noted(spare.reads, reads)?;
         let writes = written(spare.writes, writes)?;
@@ -258,12 +235,8 @@ impl<L: Law + Drop> World<L> {
     /// Takes memory for the next exchange of the clock, with at most so many notes and writes.
     pub fn reserve(&mut self, reads: usize, writes: usize) -> Result<(), Memory>
         ensures room { OnOk result (HasRoom self.new.spare (length self.new.history.items) (vec_capacity self.new.history) reads writes) }
-        ensures words { self.new.words.items ≡ self.old.words.items }
-        ensures history { self.new.history.items ≡ self.old.history.items }
-        ensures law { self.new.law ≡ self.old.law }
-        ensures opening { self.new.opening ≡ self.old.opening }
-        ensures callers { self.new.callers ≡ self.old.callers }
-        ensures limit { self.new.limit ≡ self.old.limit }
+        ensures table { KeepsTable self.old self.new }
+        ensures keeps { KeepsTerms self.old self.new }
     {
         self.spare.reads.clear();
         self.spare.writes.clear();
@@ -285,24 +258,18 @@ impl<L: Law + Drop> World<L> {
         reads: &N,
         writes: &W,
     ) -> Result<u64, Memory>
-        requires caller { IsCaller (terms_of self.old.opening.items self.old.callers self.old.limit) caller }
+        requires caller { IsCaller (kept_terms self.old) caller }
         requires old { old < MAX_VERSION }
         ensures found { IfOk result (λ clock. clock ≡ slice_index self.old.words.items 0) }
-        ensures memory { OnErr result ((self.new.words.items ≡ self.old.words.items) × (self.new.history.items ≡ self.old.history.items)) }
+        ensures memory { OnErr result (KeepsTable self.old self.new) }
         ensures succeeds { HasRoom self.old.spare (length self.old.history.items) (vec_capacity self.old.history) (length (N.notes reads.now)) (length (W.notes writes.now)) → IsOk result }
-        ensures lost { slice_index self.old.words.items 0 ≢ old → (self.new.words.items ≡ self.old.words.items) × (self.new.history.items ≡ self.old.history.items) }
-        ensures won { OnOk result (slice_index self.old.words.items 0 ≡ old → (self.new.words.items ≡ slice_set self.old.words.items 0 (old + 1)) ×
-            (history_of self.new.history.items ≡ history_of self.old.history.items ++ record { caller = caller; serial = (status_of (slice_index self.old.words.items caller)).serial; reads = N.notes reads.now; writes = writes_in (W.notes writes.now) } ∷ [])) }
-        ensures law { self.new.law ≡ self.old.law }
-        ensures opening { self.new.opening ≡ self.old.opening }
-        ensures callers { self.new.callers ≡ self.old.callers }
-        ensures limit { self.new.limit ≡ self.old.limit }
-        ensures step { OnOk result ((view : ℕ → View) → AreAttempts V.shows self.old.callers attempts.now view →
-            (let terms = terms_of self.old.opening.items self.old.callers self.old.limit in let w = world_of terms self.old.words.items (history_of self.old.history.items) view in
-            let t = (view caller).attempt in
-            Safe (L.lawful self.old.law) (L.may self.old.law) terms w → next t ≡ Some (ExchangeClock old) → N.notes reads.now ≡ t.notes → writes_in (W.notes writes.now) ≡ t.now.writes →
-            MeetsOwed (L.lawful self.old.law) (L.may self.old.law) terms w (Steps caller) →
-            ShowsSafe (L.lawful self.old.law) (L.may self.old.law) terms self.new.words.items (history_of self.new.history.items) (step w caller))) }
+        ensures lost { slice_index self.old.words.items 0 ≢ old → KeepsTable self.old self.new }
+        ensures won { OnOk result (slice_index self.old.words.items 0 ≡ old → Commits self.old self.new caller old (N.notes reads.now) (W.notes writes.now)) }
+        ensures keeps { KeepsTerms self.old self.new }
+        ensures shows { OnOk result ((view : ℕ → View) → AreAttempts V.shows self.old.callers attempts.now view →
+            (let terms = kept_terms self.old in let history = history_of self.old.history.items in
+            MayDecide (L.lawful self.old.law) (L.may self.old.law) terms self.old.words.items history view caller old (N.notes reads.now) (W.notes writes.now) →
+            ShowsSafe (L.lawful self.old.law) (L.may self.old.law) terms self.new.words.items (history_of self.new.history.items) (step (world_of terms self.old.words.items history view) caller))) }
     {
         let spare = replace(&mut self.spare, empty(self.alloc));
         let entry = self.entry(spare, caller, reads, writes)?;
