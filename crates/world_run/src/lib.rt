@@ -1,7 +1,7 @@
-//! Attempts that run on the plain world, step by step, in whatever order their callers are named, and what
-//! operations find in a safe world.
+//! Attempts that run on the plain world, step by step, in whatever order their callers are named.
 #![tactic(auto)]
 
+mod causes;
 mod simulation;
 pub mod laws;
 mod run;
