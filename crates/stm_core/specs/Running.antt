@@ -189,7 +189,7 @@ pub record Becomes (t : Attempt) (most : ℕ) (before after : Running) : Type 0 
   pub sound : IsSound after
 
 -- What becomes of it in this state by the answer to its access.
-pub record Takes (state : State) (answer : ℕ) (before after : Running) : Type 0 where
+pub record TakesAnswer (state : State) (answer : ℕ) (before after : Running) : Type 0 where
   pub shows : shown after ≡ after_word (attempt_at (base before) state) answer
   pub falls : left_in after < left_at state (length before.footprint.reads.notes) (length before.footprint.writes.writes)
   pub room : HasSpare (before.footprint.reads.spare - reads_under_way state) (before.footprint.writes.spare - writes_under_way state) (machine_of after)

@@ -7,7 +7,7 @@ ghost use Rattle.stm_core.specs.Running.{Answers, IsAsked, IsFree, IsIn, IsSound
 ghost use Rattle.stm_core.specs.declared.running.State.TheVariants as in_state;
 ghost use Rattle.stm_model.specs.After.{note_of, rolled};
 ghost use Rattle.stm_model.specs.Heap.{writes_to};
-ghost use Rattle.stm_model.specs.Moves.{AwaitsAsk, Takes as TakesAsk, asked_stopped, moved};
+ghost use Rattle.stm_model.specs.Moves.{AwaitsAsk, Takes, asked_stopped, moved};
 ghost use Rattle.stm_model.specs.declared.access.Ask.TheVariants.{Abandon, Finish, Get, Set};
 ghost use Rattle.stm_model.specs.declared.cause.Cause.{Cause as CauseOf};
 
@@ -24,8 +24,8 @@ impl Running {
         requires sound { IsSound self.old }
         requires waits { AwaitsAsk (shown self.old) }
         requires built { IsBuilt ask }
-        ensures moves { (shown self.new ≡ moved (shown self.old) (TakesAsk ask)) ⊎ IsRefused (shown self.old) ask (shown self.new) }
-        ensures takes { TakesNoMemory (machine_of self.old).spare_reads (machine_of self.old).spare_writes (shown self.old) ask → shown self.new ≡ moved (shown self.old) (TakesAsk ask) }
+        ensures moves { (shown self.new ≡ moved (shown self.old) (Takes ask)) ⊎ IsRefused (shown self.old) ask (shown self.new) }
+        ensures takes { TakesNoMemory (machine_of self.old).spare_reads (machine_of self.old).spare_writes (shown self.old) ask → shown self.new ≡ moved (shown self.old) (Takes ask) }
         ensures asked { IsAsked ask self.old self.new }
     {
         match self.state {

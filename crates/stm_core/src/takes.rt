@@ -11,7 +11,7 @@ ghost use Rattle.op_read.specs.Read.{IsToExtend, end_of_read, reading};
 ghost use Rattle.op_read.specs.Read.{accesses_left as left_to_read};
 ghost use Rattle.op_read.specs.declared.read.ReadEnd.TheVariants.{NeedExtension};
 ghost use Rattle.stm_core.specs.Machine.{HasSpare, MayTake};
-ghost use Rattle.stm_core.specs.Running.{Becomes, HasRoomFor, IsAcquiring, IsCommitting, IsFree, IsIn, IsReading, IsSound, NumbersFit, Takes, base, closing, machine_of, shown};
+ghost use Rattle.stm_core.specs.Running.{Becomes, HasRoomFor, IsAcquiring, IsCommitting, IsFree, IsIn, IsReading, IsSound, NumbersFit, TakesAnswer, base, closing, machine_of, shown};
 ghost use Rattle.stm_core.specs.declared.running.State.TheVariants as in_state;
 ghost use Rattle.stm_model.specs.After.{answer_with, at, roll_on, rolled};
 ghost use Rattle.stm_model.specs.Attempt.{ReadValue};
@@ -29,7 +29,7 @@ impl Running {
     pub fn take(&mut self, answer: u64)
         requires sound { IsSound self.old }
         requires may { MayTake (shown self.old) answer }
-        ensures { Takes self.old.state answer self.old self.new }
+        ensures { TakesAnswer self.old.state answer self.old self.new }
     {
         match self.state {
             State::Announce => self.state = State::Begin,
@@ -53,7 +53,7 @@ impl Running {
     // A read takes its answer.
     fn take_read(&mut self, op: ReadOp, answer: u64)
         requires { IsIn (in_state.Read op) self.old }
-        ensures { Takes (in_state.Read op) answer self.old self.new }
+        ensures { TakesAnswer (in_state.Read op) answer self.old self.new }
     {
         let mut op = op;
         op.take(&self.footprint.reads, answer);
@@ -100,7 +100,7 @@ impl Running {
     // An extension takes its answer.
     fn take_extension(&mut self, read: ReadOp, first: Meta, op: ExtendOp, answer: u64)
         requires { IsIn (in_state.Extend read first op) self.old }
-        ensures { Takes (in_state.Extend read first op) answer self.old self.new }
+        ensures { TakesAnswer (in_state.Extend read first op) answer self.old self.new }
     {
         let mut op = op;
         op.take(&self.footprint.reads, answer);
@@ -130,7 +130,7 @@ impl Running {
     // A first write takes its answer.
     fn take_acquire(&mut self, op: AcquireOp, value: u64, answer: u64)
         requires { IsIn (in_state.Acquire op value) self.old }
-        ensures { Takes (in_state.Acquire op value) answer self.old self.new }
+        ensures { TakesAnswer (in_state.Acquire op value) answer self.old self.new }
     {
         let mut op = op;
         op.take(&self.footprint.reads, answer);
@@ -168,7 +168,7 @@ impl Running {
     fn take_commit(&mut self, op: CommitOp, answer: u64)
         requires commits { IsIn (in_state.Commit op) self.old }
         requires clock { CommitClockFits op.place op.limit answer }
-        ensures { Takes (in_state.Commit op) answer self.old self.new }
+        ensures { TakesAnswer (in_state.Commit op) answer self.old self.new }
     {
         let mut op = op;
         op.take(&self.footprint, answer);
@@ -230,7 +230,7 @@ impl Running {
     // A rollback takes its answer.
     fn take_roll_back(&mut self, op: BackOp, ending: Ending, prepared: bool, answer: u64)
         requires { IsIn (in_state.RollBack op ending prepared) self.old }
-        ensures { Takes (in_state.RollBack op ending prepared) answer self.old self.new }
+        ensures { TakesAnswer (in_state.RollBack op ending prepared) answer self.old self.new }
     {
         let mut op = op;
         op.take(&self.written(), answer);
