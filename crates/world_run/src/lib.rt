@@ -2,9 +2,9 @@
 #![tactic(auto)]
 
 mod causes;
-mod simulation;
 pub mod laws;
 mod run;
+mod simulation;
 
 pub use simulation::Simulation;
 pub use stm_core::{Next, Reply};
