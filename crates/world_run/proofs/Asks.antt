@@ -1,11 +1,11 @@
 -- What an ask makes of a simulation.
-use Rattle.std.proofs.Common.{◌≡◌, ℕ, ◌-◌, ◌<◌, ◌≤◌, ◌^◌, ◌⊎◌, inl, inr, IsTrue, List, [], ◌∷◌, length, Option, Some, None, ap, sym, ◌∙◌, refl, subst, arith}
+use Rattle.std.proofs.Common.{◌≡◌, ℕ, ◌-◌, ◌<◌, ◌≤◌, ◌^◌, ◌⊎◌, inl, inr, List, [], length, Option, Some, None, ap, sym, ◌∙◌, refl, subst, arith}
 use Rattle.stm_core.specs.Machine.{IsBuilt, IsRefused, Machine, after_due, next_of, standing}
 use Rattle.stm_core.specs.declared.next.Next.{Next}
 use Rattle.stm_core.specs.declared.next.Next.TheVariants.{Reply}
 use Rattle.stm_core.specs.declared.next.Reply.TheVariants as reply
-use Rattle.stm_model.specs.Attempt.{Attempt, Due, Ended, Late, Ready, Stage, Stopped, cause_at}
-use Rattle.stm_model.specs.Moves.{AwaitsAsk, AwaitsAskAt, OutOfMemory, May, MayAsk, Move, Takes, moved}
+use Rattle.stm_model.specs.Attempt.{Attempt, Due, Late, Ready, Stage, Stopped, cause_at}
+use Rattle.stm_model.specs.Moves.{AwaitsAsk, AwaitsAskAt, OutOfMemory, May, MayAsk, Takes, moved}
 use Rattle.stm_model.specs.World.{IsCaller, Moves, cells_in}
 use Rattle.stm_model.specs.declared.access.Ask.{Ask}
 use Rattle.stm_model.specs.declared.access.Ask.TheVariants.{Abandon, Finish, Get, Set}

@@ -1,9 +1,9 @@
 -- An attempt that has begun to commit or to roll back goes on so until it is over.
-use Rattle.std.proofs.Common.{◌≡◌, ◌⊎◌, inl, inr, ℕ, suc, Bool, true, false, nat_eq, nat_lt, List, [], ◌∷◌, drop, IsTrue, Option, Some, None, ap, sym, ◌∙◌, refl, if◌then◌else◌}
+use Rattle.std.proofs.Common.{◌≡◌, ◌⊎◌, inl, inr, ℕ, suc, Bool, true, false, nat_eq, nat_lt, List, [], ◌∷◌, drop, IsTrue, Some, None, ap, sym, ◌∙◌, refl, if◌then◌else◌}
 use Rattle.meta_word.specs.Meta.{still_has}
 use Rattle.meta_word.specs.declared.status.Phase.TheVariants.{Preparing}
 use Rattle.stm_core.specs.Machine.{next_of}
-use Rattle.stm_model.specs.Accesses.{Act, Answer, Number, OfMeta, OfStatus, active, next, next_at, unless_due}
+use Rattle.stm_model.specs.Accesses.{Answer, Number, OfMeta, OfStatus, active, next_at, unless_due}
 use Rattle.meta_word.specs.Status.{same_status}
 use Rattle.stm_model.specs.After.{after, after_at, validate_on, note_validated, decided, mark_on, prepared, release_on, ring_if, roll_on, rolled, run_all, store_on}
 use Rattle.stm_model.specs.Attempt.{Attempt, Due, Run, Ring, Stage, Write, Announce, Begin, Ready, Late, Stopped, ReadMeta, ExtendClock, ExtendNote, ReadValue, Validate, AcquireMeta, Acquire, OwnerStatus, OwnerMeta, DoomOwner, ReleaseLevel, Prepare, Mark, CommitClock, CommitNote, Decide, StoreValues, Release, RollBack, Close, Ended}

@@ -9,11 +9,11 @@ use Rattle.stm_core.specs.Machine.{IsBuilt, IsSameAttempt}
 use Rattle.stm_model.specs.Accesses.{Act, next}
 use Rattle.stm_model.specs.Attempt.{Attempt, Due}
 use Rattle.stm_model.specs.History.{Entry}
-use Rattle.stm_model.specs.Moves.{AwaitsAsk, Does, OutOfMemory, May, MayRunOut, Move, Takes, moved}
+use Rattle.stm_model.specs.Moves.{AwaitsAsk, OutOfMemory, May, MayRunOut, Move, Takes, moved}
 use Rattle.stm_model.specs.World.{Event, IsCaller, MayHappen, MayRun, Moves, Steps, Terms, World, attempt_of, cells_in, entry_of, found, happened, run, step_by, view_after, words_after}
 use Rattle.stm_model.specs.declared.access.Ask.{Ask}
 use Rattle.stm_model.specs.declared.access.Ask.TheVariants.{Finish}
-use Rattle.world_run.specs.Simulation.{Simulation, Happens, HasSameTerms, IsFlat, IsSameOf, Shows, attempt_in, terms_in, turn_of}
+use Rattle.world_run.specs.Simulation.{Simulation, Happens, IsFlat, IsSameOf, Shows, attempt_in, terms_in, turn_of}
 use Rattle.world_run.specs.Run.{GoesOn, IsClosing, IsOf, LeadsTo, MeetsOwedAt, MeetsOwedBy, asks_in, asks_of}
 use Rattle.world_run.proofs.Closings.{closing_after, closing_does, closing_waits, finish_closing}
 use Rattle.world_run.proofs.Owing.{after_meets, does_meets, refuses_meets, takes_meets}

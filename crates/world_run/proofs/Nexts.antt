@@ -1,5 +1,5 @@
 -- What follows of an attempt's next move, beside what it promises.
-use Rattle.std.proofs.Common.{Result, Ok, Err, OnErr, ◌≡◌, ◌≢◌, ℕ, Bool, true, false, IsTrue, ◌<◌, List, [], ◌∷◌, Option, Some, None, ap, sym, refl, subst, length, arith}
+use Rattle.std.proofs.Common.{Result, Ok, Err, OnErr, ◌≡◌, ◌≢◌, ℕ, Bool, true, false, IsTrue, ◌<◌, List, [], ◌∷◌, Option, Some, None, sym, refl, subst, length, arith}
 use Rattle.opacity.specs.Plain.{IsUndecided}
 use Rattle.stm_core.specs.Machine.{Promises, after_due, next_of, over, standing}
 use Rattle.stm_core.specs.declared.next.Next.{Next}
@@ -8,10 +8,10 @@ use Rattle.stm_core.specs.declared.next.Reply.TheVariants as reply
 use Rattle.stm_model.specs.Accesses.{Act, access_of, next, next_at, unless_due}
 use Rattle.stm_model.specs.Attempt.{Attempt, Due, Stage, Ready, Late, Stopped, Ended, Run, Ring}
 use Rattle.stm_model.specs.Moves.{AwaitsAsk, AwaitsAskAt, Does}
-use Rattle.stm_model.specs.World.{Event, Moves, Steps}
+use Rattle.stm_model.specs.World.{Moves, Steps}
 use Rattle.stm_model.specs.declared.access.Access.{Access}
 use Rattle.stm_model.specs.declared.access.Access.TheVariants.{Exchange}
-use Rattle.stm_model.specs.declared.access.Word.TheVariants.{Clock, Status, Meta, Value}
+use Rattle.stm_model.specs.declared.access.Word.TheVariants.{Clock}
 use Rattle.stm_model.specs.declared.ending.Ending.{Ending}
 use Rattle.world_run.specs.Simulation.{IsOver, IsToDecide, replies, tells_end, tells_wait, turn_of}
 

@@ -1,5 +1,5 @@
 -- An attempt that is asked for writes that meet what is owed meets it where it wins the exchange of the clock.
-use Rattle.std.proofs.Common.{◌≡◌, ℕ, zero, suc, Bool, true, false, not, ◌&&◌, nat_eq, nat_lt, get_or, List, [], ◌∷◌, ◌++◌, drop, Option, Some, None, ap, sym, refl, subst, if◌then◌else◌}
+use Rattle.std.proofs.Common.{◌≡◌, ℕ, zero, suc, Bool, true, false, not, ◌&&◌, nat_eq, nat_lt, get_or, List, [], ◌∷◌, drop, Option, Some, None, refl, if◌then◌else◌}
 use Rattle.std.specs.Map.{lookup}
 use Rattle.std.proofs.lemmas.List.Elements.{All-nil}
 use Rattle.meta_word.specs.Meta.{changing_by_another, owned_by_another, same_but_pending, same_meta, still_has}
@@ -7,15 +7,14 @@ use Rattle.meta_word.specs.Policy.{dooms}
 use Rattle.meta_word.specs.Status.{same_status}
 use Rattle.meta_word.specs.declared.meta.Meta.{Meta}
 use Rattle.meta_word.specs.declared.status.Phase.TheVariants.{Preparing}
-use Rattle.meta_word.specs.declared.status.TxnStatus.{TxnStatus}
 use Rattle.stm_core.specs.Machine.{IsBuilt}
-use Rattle.stm_model.specs.Accesses.{Act, Answer, ExchangeClock, Number, OfMeta, OfStatus, active, next, next_at, unless_due}
+use Rattle.stm_model.specs.Accesses.{Answer, ExchangeClock, Number, OfMeta, OfStatus, active, next, next_at, unless_due}
 use Rattle.stm_model.specs.After.{acquire_again, acquiring, after_at, decided, exchanged, extend_on, extended, is_active, mark_on, meta_acquired, meta_read, note_of, note_validated, owner_status_loaded, owner_validated, prepared, read_again, release_on, ring_if, roll_on, rolled, run_all, store_on, validate_on, validated}
-use Rattle.stm_model.specs.Attempt.{Attempt, Due, Run, Ring, Stage, Write, Announce, Begin, Ready, Late, Stopped, ReadMeta, ExtendClock, ExtendNote, ReadValue, Validate, AcquireMeta, Acquire, OwnerStatus, OwnerMeta, DoomOwner, ReleaseLevel, Prepare, Mark, CommitClock, CommitNote, Decide, StoreValues, Release, RollBack, Close, Ended}
+use Rattle.stm_model.specs.Attempt.{Attempt, Due, Run, Ring, Stage, Write, Announce, Begin, Ready, Late, Stopped, ReadMeta, ExtendClock, ExtendNote, ReadValue, Validate, AcquireMeta, Acquire, OwnerStatus, OwnerMeta, DoomOwner, ReleaseLevel, Prepare, Mark, CommitClock, CommitNote, Decide, StoreValues, Release, RollBack, Close}
 use Rattle.stm_model.specs.Handlers.{committing, preparing}
 use Rattle.stm_model.specs.Heap.{put, writes_to}
 use Rattle.stm_model.specs.Moves.{AwaitsAskAt, Does, OutOfMemory, Takes, asked_at, asked_going, asked_stopped, conclude, did_first, moved, read_buffered, read_noted, turn_to}
-use Rattle.stm_model.specs.Owes.{IsPossible, Owes}
+use Rattle.stm_model.specs.Owes.{Owes}
 use Rattle.stm_model.specs.declared.access.Ask.{Ask}
 use Rattle.stm_model.specs.declared.access.Ask.TheVariants.{Abandon, Finish, Get, Set}
 use Rattle.stm_model.specs.declared.cause.Cause.{Cause}

@@ -8,7 +8,7 @@ use Rattle.stm_model.specs.Attempt.{Attempt, Due, Ended, Stage, stamp_of}
 use Rattle.stm_model.specs.History.{Entry}
 use Rattle.stm_model.specs.Moves.{Begins, May, begun, moved}
 use Rattle.stm_model.specs.Safe.{HasBegun, IsKept, Opaque, Safe}
-use Rattle.stm_model.specs.World.{Event, IsCaller, MayHappen, Moves, Terms, World, attempt_of, cells_in, happened, run}
+use Rattle.stm_model.specs.World.{Event, IsCaller, MayHappen, Moves, World, attempt_of, cells_in, happened, run}
 use Rattle.stm_model.specs.declared.access.Ask.{Ask}
 use Rattle.stm_model.specs.declared.ending.Ending.{Ending}
 use Rattle.world_run.specs.Simulation.{Simulation, Happens, Invariant, IsOver, MayBegin, Shows, attempt_in, terms_in}

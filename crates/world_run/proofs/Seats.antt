@@ -10,7 +10,7 @@ use Rattle.stm_model.specs.Attempt.{Attempt}
 use Rattle.stm_model.specs.Safe.{Safe}
 use Rattle.stm_model.specs.World.{Event, IsCaller, MayHappen, Terms, View, World, attempt_of, happened, world_of}
 use Rattle.stm_model.specs.declared.settings.Settings.{Settings}
-use Rattle.world_run.specs.Simulation.{Simulation, Happens, HasSameTerms, Invariant, InvariantOn, IsFlat, Shows, attempt_in, latest, machine_at, terms_in}
+use Rattle.world_run.specs.Simulation.{Simulation, Happens, HasSameTerms, InvariantOn, IsFlat, Shows, attempt_in, latest, machine_at, terms_in}
 
 same_place : (q p : ℕ) → nat_eq q p ≡ true → q ≡ p
 same_place q p is = grind (arith, nat_tests)

@@ -1,10 +1,9 @@
 -- What an attempt tells is true.
-use Rattle.std.proofs.Common.{◌≡◌, ℕ, ◌-◌, ◌<◌, ◌≤◌, IfSome, List, [], ◌∷◌, length, Option, Some, None, ap, sym, ◌∙◌, refl, subst}
+use Rattle.std.proofs.Common.{◌≡◌, ℕ, IfSome, List, [], ◌∷◌, Option, Some, None, ap, ◌∙◌, refl, subst}
 use Rattle.stm_core.specs.Machine.{after_due, next_of, over, standing}
 use Rattle.stm_core.specs.declared.next.Next.{Next}
 use Rattle.stm_model.specs.Accesses.{access_of, next_at}
 use Rattle.stm_model.specs.Attempt.{Attempt, Due, Ended, Late, Ready, Ring, Run, Stage, Stopped, cause_at}
-use Rattle.stm_model.specs.History.{Entry}
 use Rattle.stm_model.specs.Safe.{EndsSo, IsShown}
 use Rattle.stm_model.specs.World.{IsCaller, World, attempt_of, world_of}
 use Rattle.stm_model.specs.declared.ending.Ending.{Ending}

@@ -1,13 +1,12 @@
 -- What a step, an exchange of the clock and a local move of a caller make of a simulation.
-use Rattle.std.proofs.Common.{◌≡◌, ℕ, suc, ◌+◌, ◌-◌, ◌<◌, ◌≤◌, List, [], ◌∷◌, length, get_or, set, Option, Some, None, ap, sym, ◌∙◌, refl, subst, arith}
+use Rattle.std.proofs.Common.{◌≡◌, ℕ, suc, ◌+◌, ◌-◌, ◌<◌, ◌≤◌, List, [], ◌∷◌, length, get_or, Option, Some, None, ap, sym, ◌∙◌, refl, subst, arith}
 use Rattle.std.proofs.lemmas.Grind.{common_steps}
 use Rattle.opacity.specs.Plain.{AreAttempts, MayDecide, ShowsAccess, ShowsSafe, terms_of, writes_in}
 use Rattle.opacity.specs.Words.{IsOfTable, word_found}
-use Rattle.stm_core.specs.Machine.{ClockFits, Decides, Machine, Makes, after_due, next_of, standing}
+use Rattle.stm_core.specs.Machine.{ClockFits, Decides, Machine, Makes}
 use Rattle.op_commit.specs.Buffered.{buffered}
-use Rattle.stm_core.specs.declared.next.Next.TheVariants as coming
 use Rattle.meta_word.specs.declared.meta.TheConstants.{MAX_VERSION}
-use Rattle.stm_model.specs.Accesses.{Act, ExchangeClock, access_of, next, next_access, next_at, packed, word_of}
+use Rattle.stm_model.specs.Accesses.{Act, ExchangeClock, access_of, next, next_at, packed, word_of}
 use Rattle.stm_model.specs.After.{after_word}
 use Rattle.stm_model.specs.Attempt.{Announce, Attempt, Ended, Write, no_attempt}
 use Rattle.stm_model.specs.History.{Entry}
@@ -29,7 +28,7 @@ use Rattle.world_run.proofs.Falls.{did_falls, took_falls}
 use Rattle.world_run.proofs.Flats.{flat_after, flat_does}
 use Rattle.world_run.proofs.Seats.{Follows, Reseats, none_changed, own_now, there_now}
 use Rattle.world_run.proofs.Seats as seats
-use Rattle.world_run.proofs.Steps.{attempts_shown, clock_fits, ground, ground_safe, of_table, own_step, tells}
+use Rattle.world_run.proofs.Steps.{attempts_shown, clock_fits, ground_safe, of_table, own_step, tells}
 
 -- a seat that is taken
 pub record Seat {L : Type 0} (c : Simulation L) (p : ℕ) : Type 0 where

@@ -15,7 +15,7 @@ use Rattle.stm_model.specs.World.{Event, MayRun, Moves, World, entry_of, run}
 use Rattle.stm_model.specs.declared.access.Ask.{Ask}
 use Rattle.stm_model.specs.declared.access.Ask.TheVariants.{Abandon, Finish, Set}
 use Rattle.stm_model.specs.declared.ending.Ending.{Ending}
-use Rattle.stm_model.specs.declared.ending.Ending.TheVariants.{Committed, Read, Rolled}
+use Rattle.stm_model.specs.declared.ending.Ending.TheVariants.{Committed}
 use Rattle.world_run.specs.Simulation.{Simulation, HasSameTerms, IsOver, IsSameOf, IsTrueOf, MayBegin, Shows, attempt_in, terms_in}
 
 -- ---- who moved

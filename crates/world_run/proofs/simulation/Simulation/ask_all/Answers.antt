@@ -1,4 +1,4 @@
-use Rattle.std.proofs.Common.{inl, inr, false, true, ◌≡◌, ◌+◌, [], ◌∷◌, ◌++◌, drop, sym, refl, ◌∙◌}
+use Rattle.std.proofs.Common.{inl, inr, false, true, ◌≡◌, ◌+◌, [], ◌∷◌, ◌++◌, drop, sym, ◌∙◌}
 use Rattle.stm_model.specs.declared.access.Ask.TheVariants.{Finish}
 use Rattle.world_run.specs.Simulation.{attempt_in}
 use Rattle.world_run.proofs.Bodies.{along_front, goes_more, goes_settled, is_askable, meets_behind}

@@ -1,4 +1,4 @@
-use Rattle.std.proofs.Common.{◌≡◌, IsTrue, take}
+use Rattle.std.proofs.Common.{IsTrue, take}
 use Rattle.stm_core.specs.Machine.{next_of}
 use Rattle.stm_model.specs.World.{IsCaller}
 use Rattle.world_run.specs.Simulation.{attempt_in, replies, terms_in}

@@ -1,4 +1,4 @@
-use Rattle.std.proofs.Common.{◌≡◌, inl, inr, false, true, sym, refl, ◌∙◌}
+use Rattle.std.proofs.Common.{◌≡◌, inl, inr, false, true, sym, ◌∙◌}
 use Rattle.stm_core.specs.Machine.{IsBuilt}
 use Rattle.stm_model.specs.Moves.{MayAsk}
 use Rattle.stm_model.specs.declared.access.Ask.TheVariants.{Finish}

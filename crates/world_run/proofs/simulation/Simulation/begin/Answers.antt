@@ -1,5 +1,5 @@
-use Rattle.std.proofs.Common.{◌≡◌, ◌-◌, ◌<◌, ◌≤◌, Some, sym, refl, ◌∙◌, arith, set}
-use Rattle.world_run.specs.Simulation.{attempt_in, simulation_of}
+use Rattle.std.proofs.Common.{◌-◌, Some, sym, refl, ◌∙◌, arith, set}
+use Rattle.world_run.specs.Simulation.{simulation_of}
 use Rattle.world_run.proofs.Turns.{begins, serial_is, within}
 use Rattle.world_run.proofs.simulation.Simulation.begin.Goals as goal
 

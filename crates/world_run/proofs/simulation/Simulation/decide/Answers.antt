@@ -1,8 +1,8 @@
-use Rattle.std.proofs.Common.{◌≡◌, List, Option, Some, ap, sym, refl, subst, ◌∙◌}
+use Rattle.std.proofs.Common.{List, ap, sym, refl, ◌∙◌}
 use Rattle.op_commit.specs.Buffered.{buffered}
 use Rattle.opacity.specs.Plain.{writes_in}
 use Rattle.stm_model.specs.Attempt.{Attempt, Write}
-use Rattle.world_run.specs.Simulation.{attempt_in, simulation_of}
+use Rattle.world_run.specs.Simulation.{simulation_of}
 use Rattle.world_run.proofs.Turns.{caller_of_table, clock_below, exchange_advances, exchange_follows, exchange_given, nobody_decides, seat_is, within, writes_back}
 use Rattle.world_run.proofs.simulation.Simulation.decide.Goals as goal
 

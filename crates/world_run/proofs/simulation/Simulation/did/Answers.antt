@@ -1,6 +1,5 @@
 use Rattle.std.proofs.Common.{refl}
 use Rattle.world_run.specs.Simulation.{simulation_of}
-use Rattle.world_run.proofs.Seats.{none_changed}
 use Rattle.world_run.proofs.Turns.{does, done_advances, has_due}
 use Rattle.world_run.proofs.simulation.Simulation.did.Goals as goal
 

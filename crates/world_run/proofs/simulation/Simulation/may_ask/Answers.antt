@@ -1,4 +1,4 @@
-use Rattle.std.proofs.Common.{◌≡◌, false, true, Some, ap, sym, refl, ◌∙◌, arith, length}
+use Rattle.std.proofs.Common.{◌≡◌, ap, sym, ◌∙◌, arith, length}
 use Rattle.world_run.specs.Simulation.{attempt_in}
 use Rattle.world_run.proofs.Asks.{is_askable, takes_ask}
 use Rattle.world_run.proofs.Nexts.{awaits, tells_waits}

@@ -1,4 +1,4 @@
-use Rattle.std.proofs.Common.{refl, sym}
+use Rattle.std.proofs.Common.{refl}
 use Rattle.world_run.specs.Simulation.{simulation_of}
 use Rattle.world_run.proofs.Openings.{opened_shows, opened_whole}
 use Rattle.world_run.proofs.simulation.Simulation.new.Goals as goal

@@ -1,4 +1,4 @@
-use Rattle.std.proofs.Common.{sym, refl, ◌∙◌}
+use Rattle.std.proofs.Common.{sym, ◌∙◌}
 use Rattle.world_run.specs.Simulation.{attempt_in}
 use Rattle.world_run.proofs.Nexts.{rests_so, tells_over}
 use Rattle.world_run.proofs.simulation.Simulation.rests.Goals as goal

@@ -1,4 +1,4 @@
-use Rattle.std.proofs.Common.{inl, inr, [], ◌∷◌, ◌++◌, refl}
+use Rattle.std.proofs.Common.{inl, inr, [], ◌∷◌, ◌++◌}
 use Rattle.stm_model.specs.declared.access.Ask.TheVariants.{Finish}
 use Rattle.world_run.specs.Run.{MeetsOwedAt}
 use Rattle.world_run.proofs.Bodies.{along_body, along_from, along_more, along_whole}

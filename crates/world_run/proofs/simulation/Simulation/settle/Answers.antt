@@ -1,4 +1,3 @@
-use Rattle.std.proofs.Common.{[]}
 use Rattle.world_run.specs.Simulation.{attempt_in}
 use Rattle.world_run.proofs.Going.{goes_none, goes_on, turns_on}
 use Rattle.world_run.proofs.Owing.{owes_next}

@@ -1,5 +1,4 @@
-use Rattle.std.proofs.Common.{◌≡◌, List, Option, Some, refl, subst}
-use Rattle.opacity.specs.Plain.{AreAttempts}
+use Rattle.std.proofs.Common.{refl}
 use Rattle.world_run.specs.Simulation.{simulation_of}
 use Rattle.world_run.proofs.Nexts.{is_undecided}
 use Rattle.world_run.proofs.Turns.{access_advances, access_follows, access_given, access_of_table, caller_of_table}
