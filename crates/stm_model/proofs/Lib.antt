@@ -1,6 +1,7 @@
 pub mod Ascending
 pub mod HeapLemmas
 pub mod EvidenceLemmas
+pub mod FirstUseLemmas
 pub mod HistoryLemmas
 pub mod OwesLemmas
 pub mod CellsLemmas

@@ -21,4 +21,5 @@ pub mod Waiting
 pub mod World
 pub mod Rows
 pub mod Evidence
+pub mod FirstUse
 pub mod Safe

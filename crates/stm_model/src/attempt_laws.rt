@@ -1,5 +1,5 @@
 //! The laws of attempts. Each function does nothing: its clauses are theorems.
-ghost use Rattle.std.specs.Prelude.{◌≡◌, ◌<◌, ◌↔◌, ◌⊎◌, ◌++◌, ◌∷◌, [], ℕ, Bool, List, nat_eq, Ok, Option, Some, None, length, replicate, IsTrue};
+ghost use Rattle.std.specs.Prelude.{◌≡◌, ◌<◌, ◌↔◌, ◌⊎◌, ◌++◌, ◌∷◌, [], ℕ, Bool, List, nat_eq, Ok, Option, Some, None, length, replicate, IsFalse, IsTrue};
 ghost use Rattle.stm_model.specs.declared.access.Ask.TheVariants.{Abandon, Enter, Finish, Get, Hook, Keep, Later, Set, Undo};
 ghost use Rattle.std.specs.Map.{lookup};
 ghost use Rattle.meta_word.specs.Meta.{still_has, same_meta};
@@ -11,12 +11,14 @@ ghost use Rattle.stm_model.specs.declared.cause.HookPhase.{HookPhase};
 ghost use Rattle.stm_model.specs.declared.access.Ask.{Ask};
 ghost use Rattle.stm_model.specs.Accesses.{Answer, addr_of, next};
 ghost use Rattle.stm_model.specs.After.{after, answer_with, release_level_on, validated, note_of, exchanged, ring_if, rolled, run_all};
-ghost use Rattle.stm_model.specs.Attempt.{Attempt, Ended, Ready, cause_at, cells_of};
+ghost use Rattle.stm_model.specs.Attempt.{Attempt, Ended, Ready, Stopped, cause_at, cells_of};
 ghost use Rattle.stm_model.specs.CellsState.{Book, empty_book, late_registered, entered, hooked, kept, undone, written};
+ghost use Rattle.stm_model.specs.FirstUse.{ReadOn, Reads, WriteOn, Writes};
 ghost use Rattle.stm_model.specs.Handlers.{Handlers};
 ghost use Rattle.stm_model.specs.Heap.{writes_to};
 ghost use Rattle.stm_model.specs.Moves.{AwaitsAskAt, Does, EndsLate, IsCall, Takes, moved, moved_on};
-ghost use Rattle.stm_model.specs.Refusing.{deepest};
+ghost use Rattle.stm_model.specs.Refusing.{RefusesRead, RefusesWrite, deepest};
+ghost use Rattle.stm_model.specs.Telling.{Refused};
 ghost use Rattle.stm_model.specs.Whole.{Whole};
 
 use crate::{Body, Law};
@@ -62,6 +64,37 @@ pub fn what_ends_well_is_noted_or_written()
     ensures written { (size : ℕ) (t : Attempt) (cell value left : ℕ) (tried : Bool) (first expected : Meta) (again : Bool) (found : Meta) →
         cause_at t.stage ≡ None → IsTrue (same_meta found expected) →
         cells_of size (exchanged t cell value left tried first expected again found) ≡ written cell value (cells_of size t) }
+{}
+
+/// A first read of a cell, access by access. An ask for a cell that is neither written nor noted begins
+/// one and changes nothing that the body sees. After each further access, whatever it found, the read
+/// goes on and the cells are as before, or it told the cell's value, or it was refused with one of the
+/// causes of a read of this cell, and nothing else changed.
+pub fn a_first_read_tells_the_value_or_is_refused<L: Law>()
+    ensures begins { (t : Attempt) (cell : Addr) → AwaitsAskAt t.stage → cause_at t.stage ≡ None →
+        lookup (nat_eq cell.0) t.now.writes ≡ None → note_of t.notes cell.0 ≡ None → Reads cell.0 (moved t (Takes (Get cell))) }
+    ensures same { (size : ℕ) (t : Attempt) (cell : Addr) → AwaitsAskAt t.stage → cause_at t.stage ≡ None →
+        lookup (nat_eq cell.0) t.now.writes ≡ None → note_of t.notes cell.0 ≡ None →
+        cells_of size (moved t (Takes (Get cell))) ≡ cells_of size t }
+    ensures access { (law : L) (size address : ℕ) (t : Attempt) (answer : Answer) → Reads address t →
+        ReadOn (L.lawful law) size address (cells_of size t) (after t answer) }
+    ensures refused { (size address : ℕ) (t : Attempt) (answer : Answer) (cause : Cause) → Reads address t →
+        (after t answer).stage ≡ Stopped cause →
+        Refused (RefusesRead (cells_of size t) address) cause (cells_of size t) (cells_of size (after t answer)) }
+{}
+
+/// A first write of a cell, access by access, likewise: it goes on and the cells are as before, or it is
+/// done, or it was refused with one of the causes of a first write of this cell, and nothing else changed.
+pub fn a_first_write_is_done_or_refused()
+    ensures begins { (t : Attempt) (cell : Addr) (value : ℕ) → AwaitsAskAt t.stage → cause_at t.stage ≡ None →
+        IsFalse (writes_to t.now.writes cell.0) → Writes cell.0 value (moved t (Takes (Set cell value))) }
+    ensures same { (size : ℕ) (t : Attempt) (cell : Addr) (value : ℕ) → AwaitsAskAt t.stage → cause_at t.stage ≡ None →
+        IsFalse (writes_to t.now.writes cell.0) → cells_of size (moved t (Takes (Set cell value))) ≡ cells_of size t }
+    ensures access { (size address value : ℕ) (t : Attempt) (answer : Answer) → Writes address value t →
+        WriteOn size address value (cells_of size t) (after t answer) }
+    ensures refused { (size address value : ℕ) (t : Attempt) (answer : Answer) (cause : Cause) → Writes address value t →
+        (after t answer).stage ≡ Stopped cause →
+        Refused (RefusesWrite (cells_of size t) address) cause (cells_of size t) (cells_of size (after t answer)) }
 {}
 
 /// Once the cells of a level are given back and its handlers have run, the level is undone. It may be
