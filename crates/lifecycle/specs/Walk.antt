@@ -1,5 +1,5 @@
 -- Private: one step of a walk along the runs of a stage.
-use Rattle.std.specs.Prelude.{◌≡◌, ℕ, List, [], ◌∷◌, Option, None, Some}
+use Rattle.std.specs.Prelude.{◌≡◌, ℕ, [], ◌∷◌, Option, None, Some}
 use Rattle.lifecycle.specs.StageRuns.{left_after}
 use Rattle.lifecycle.specs.declared.stage.Stage.{Stage}
 use Rattle.stm_model.specs.declared.cause.HookPhase.{HookPhase}

@@ -1,4 +1,4 @@
-use Rattle.std.proofs.Common.{arith, sym, ◌∙◌, ◌≡◌, true, false}
+use Rattle.std.proofs.Common.{sym, ◌∙◌}
 use Rattle.lifecycle.proofs.Walking.{none_left, passes_here, runs_here}
 use Rattle.lifecycle.proofs.handlers.first_run.Goals as goal
 

@@ -1,4 +1,4 @@
-use Rattle.std.proofs.Common.{◌≡◌, ◌≤◌, sym, ◌∙◌, ap, arith}
+use Rattle.std.proofs.Common.{◌≡◌, sym, ◌∙◌, arith}
 use Rattle.lifecycle.proofs.Places.{left_behind, none_stands, stands_here}
 use Rattle.lifecycle.proofs.handlers.Handlers.run_at.Goals as goal
 
