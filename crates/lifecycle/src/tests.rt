@@ -96,6 +96,7 @@ fn what_a_level_registered_is_undone(rt: HostRuntime) -> Result<(), Fail> {
     handlers.later(1)?;
     let mark = handlers.mark();
     let later_mark = handlers.later_mark();
+    handlers.reserve(1, 1)?;
     handlers.register(HookPhase::Rollback, 20)?;
     handlers.later(2)?;
     assert!(rt; runs(&rt, &handlers, Stage::AfterRollback, mark, [20].as_slice()));
