@@ -18,4 +18,6 @@ pub struct Level {
     pub writes: WriteMark,
     /// How many handlers were registered.
     pub hooks: usize,
+    /// How many before-commit bodies were registered.
+    pub laters: usize,
 }
