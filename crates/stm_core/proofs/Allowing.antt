@@ -1,16 +1,16 @@
 -- What an attempt does next keeps what it promises.
-use Rattle.std.proofs.Common.{◌≡◌, ℕ, ◌<◌, ◌≤◌, IfSome, IsSome, List, [], ◌∷◌, length, Option, Some, None, refl, sym, ap, ◌∙◌, subst, arith}
+use Rattle.std.proofs.Common.{◌≡◌, ℕ, IfSome, IsSome, List, [], ◌∷◌, length, Option, Some, None, refl, sym, ap, ◌∙◌, subst, arith}
 use Rattle.stm_core.proofs.Shown.{at_rest, next_is, shown_alike}
 use Rattle.stm_core.proofs.Stands.{IsBelow, stands}
 use Rattle.stm_core.specs.Machine.{ClockFits, IsAtRest, MayTake, Promises, Waits, after_due, made, named, next_of, over, standing}
-use Rattle.stm_core.specs.Running.{IsSound, base, shown}
+use Rattle.stm_core.specs.Running.{IsSound, shown}
 use Rattle.stm_core.specs.declared.next.Next.{Next}
 use Rattle.stm_core.specs.declared.next.Next.TheVariants as coming
 use Rattle.stm_core.specs.declared.next.Reply.TheVariants as reply
 use Rattle.stm_core.specs.declared.running.Running.{Running}
 use Rattle.stm_core.specs.declared.running.State.TheVariants as in_state
 use Rattle.stm_model.specs.declared.ending.Ending.{Ending}
-use Rattle.stm_model.specs.Accesses.{Act, LoadClock, ExchangeClock, access_of, addr_of, next, next_at, packed}
+use Rattle.stm_model.specs.Accesses.{Act, LoadClock, ExchangeClock, access_of, next, next_at, packed}
 use Rattle.stm_model.specs.Attempt.{Attempt, Due, Ended, Late, Ready, Ring, Run, Stage, Stopped}
 use Rattle.stm_model.specs.Moves.{AwaitsAskAt}
 

@@ -4,7 +4,7 @@ use Rattle.meta_word.specs.Policy.{looks}
 use Rattle.stm_core.proofs.Shown.{shown_alike}
 use Rattle.stm_core.proofs.Stands.{Stands, stands}
 use Rattle.stm_core.specs.Machine.{IsBuilt, IsRefused, TakesNoMemory, accesses_asked}
-use Rattle.stm_core.specs.Running.{IsSound, attempt_at, base, machine_of, ready, refused, shown}
+use Rattle.stm_core.specs.Running.{IsSound, attempt_at, base, machine_of, refused, shown}
 use Rattle.stm_core.specs.declared.running.Running.{Running}
 use Rattle.stm_core.specs.declared.running.State.{State}
 use Rattle.stm_core.specs.declared.running.State.TheVariants as in_state

@@ -1,5 +1,5 @@
 -- What an operation shows once it has ended.
-use Rattle.std.proofs.Common.{◌≡◌, ℕ, true, List, [], ◌++◌, Option, Some, None, refl, sym, ap, ◌∙◌, subst, append-nil}
+use Rattle.std.proofs.Common.{◌≡◌, true, List, [], ◌++◌, Option, Some, None, refl, sym, ap, ◌∙◌, subst, append-nil}
 use Rattle.op_commit.specs.Acquire as acquire
 use Rattle.op_commit.specs.Back as rollback
 use Rattle.op_commit.specs.Commit as commit

@@ -1,6 +1,5 @@
 -- How an ask leaves an attempt: it waits to be asked again, or makes an access.
 use Rattle.std.proofs.Common.{◌≡◌, ℕ, ◌⊎◌, inl, inr, Bool, true, false, if◌then◌else◌, IsSome, List, [], ◌∷◌, drop, Option, Some, None, refl, sym, ap, ◌∙◌, subst}
-use Rattle.std.specs.Map.{lookup}
 use Rattle.op_commit.specs.Buffered.{ring_for}
 use Rattle.stm_core.proofs.Shown.{next_is, shown_alike}
 use Rattle.stm_core.specs.Machine.{IsBuilt, IsRefused}
@@ -9,14 +8,13 @@ use Rattle.stm_core.specs.declared.running.Running.{Running}
 use Rattle.stm_model.specs.declared.access.Ask.{Ask}
 use Rattle.stm_model.specs.declared.access.Ask.TheVariants.{Abandon, Finish, Get, Set}
 use Rattle.stm_model.specs.declared.cause.Cause.{Cause}
-use Rattle.stm_model.specs.declared.cause.Cause.TheVariants.{Memory}
 use Rattle.stm_model.specs.declared.ending.Ending.TheVariants.{Rolled}
 use Rattle.stm_model.specs.declared.note.Note.{Note}
 use Rattle.stm_model.specs.Accesses.{next, next_at}
-use Rattle.stm_model.specs.After.{at, done, note_of, roll_on, rolled}
-use Rattle.stm_model.specs.Attempt.{AcquireMeta, Attempt, Late, Ready, Stage, Stopped, Write}
-use Rattle.stm_model.specs.Heap.{put, writes_to}
-use Rattle.stm_model.specs.Moves.{AwaitsAsk, AwaitsAskAt, OutOfMemory, Takes, asked_at, asked_going, asked_stopped, conclude, moved, read_buffered, read_noted, turn_to, write_cell}
+use Rattle.stm_model.specs.After.{note_of, roll_on}
+use Rattle.stm_model.specs.Attempt.{Attempt, Late, Ready, Stage, Stopped, Write}
+use Rattle.stm_model.specs.Heap.{writes_to}
+use Rattle.stm_model.specs.Moves.{AwaitsAsk, AwaitsAskAt, Takes, asked_at, asked_going, asked_stopped, conclude, moved, read_buffered, read_noted, turn_to}
 
 -- By its stage it waits to be asked, or makes an access.
 abbrev GoesOn : Attempt → Type 0

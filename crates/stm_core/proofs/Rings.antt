@@ -4,7 +4,7 @@ use Rattle.op_commit.specs.Buffered.{ring_for}
 use Rattle.stm_core.proofs.Shown.{shown_alike}
 use Rattle.stm_core.proofs.Stands.{stands, with_rings}
 use Rattle.stm_core.specs.Rung.{cells_in}
-use Rattle.stm_core.specs.Running.{InvariantAt, IsSound, base, shown}
+use Rattle.stm_core.specs.Running.{InvariantAt, IsSound, shown}
 use Rattle.stm_core.specs.declared.rung.Rung.{Rung}
 use Rattle.stm_core.specs.declared.running.Running.{Running}
 use Rattle.stm_core.specs.declared.running.State.{State}

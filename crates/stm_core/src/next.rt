@@ -23,7 +23,7 @@ pub enum Next {
     Decide { old: u64 },
     /// A handler is to be run.
     Run { phase: HookPhase, token: u64 },
-    /// A body that was put off is to be run.
+    /// A before-commit body is to be run.
     Before { token: u64 },
     /// Who waits for the cell is to be woken.
     Ring(Addr),

@@ -64,7 +64,6 @@ fn go(rt: &impl Abort, attempt: &mut Attempt, steps: &[(Next, u64)])
 }
 
 // What the attempt does next is done, and this word is found.
-#[tactic(auto, unfolding(stm_core::specs::Machine::MakesAccess, stm_core::specs::Machine::FindsClock, stm_core::specs::Machine::IsDue))]
 fn answer(rt: &impl Abort, attempt: &mut Attempt, word: u64)
     requires { attempt.old.attempt.settings.clock ≡ 9 }
     ensures { attempt.new.attempt.settings.clock ≡ 9 }
@@ -81,7 +80,7 @@ fn answer(rt: &impl Abort, attempt: &mut Attempt, word: u64)
 }
 
 // The attempt, which waits for it, is asked for something.
-#[tactic(auto, unfolding(stm_core::specs::Machine::IsToBeAsked, stm_core::specs::Machine::IsBuilt, stm_model::specs::Moves::MayAsk))]
+#[tactic(auto, unfolding(stm_core::specs::Machine::IsBuilt, stm_model::specs::Moves::MayAsk))]
 fn ask(rt: &impl Abort, attempt: &mut Attempt, ask: Ask)
     requires { attempt.old.attempt.settings.clock ≡ 9 }
     ensures { attempt.new.attempt.settings.clock ≡ 9 }

@@ -8,8 +8,9 @@ use std::alloc::Global;
 use std::collections::BTreeSet;
 use std::test::Fail;
 use stm_core::{Next, Reply};
-use stm_model::{Access, Addr, Ask, Ending, Policy, Settings, Word};
+use stm_model::{Addr, Ask, Ending, Free, Policy, Settings, Word};
 use world_run::Simulation;
+use world_run::laws::the_free_law_owes_nothing;
 
 // Both cells hold 1 at first.
 const OPENING: [u64; 2] = [1, 1];
@@ -83,7 +84,7 @@ impl Actor {
 // A simulation of two callers, with their scripts.
 #[derive(Drop)]
 struct Pair {
-    simulation: Simulation,
+    simulation: Simulation<Free>,
     first: Actor,
     second: Actor,
 }
@@ -100,7 +101,7 @@ fn opened(alloc: Global, policy: Policy, scripts: (Script, Script)) -> Result<Pa
         clock: 9,
         attempts: 1,
     };
-    let mut simulation = Simulation::new(alloc, settings, &OPENING)?;
+    let mut simulation = Simulation::new(alloc, Free, settings, &OPENING)?;
     simulation.begin(1);
     simulation.begin(2);
     Ok(Pair {
@@ -110,30 +111,8 @@ fn opened(alloc: Global, policy: Policy, scripts: (Script, Script)) -> Result<Pa
     })
 }
 
-// The word that the access goes to, as it stands.
-fn word_at(simulation: &Simulation, word: Word) -> Option<u64> {
-    let place = match word {
-        Word::Clock => 0,
-        Word::Status(caller) => caller as usize,
-        Word::Meta(addr) => 3 + 2 * addr.0 as usize,
-        Word::Value(addr) => 4 + 2 * addr.0 as usize,
-    };
-    simulation.world().words.get(place).copied()
-}
-
-fn target(access: Access) -> Word {
-    match access {
-        Access::Load(word)
-        | Access::Store(word, _)
-        | Access::Swap(word, _)
-        | Access::SetBits(word, _)
-        | Access::ClearBits(word, _)
-        | Access::Exchange { word, .. } => word,
-    }
-}
-
 // Takes the reply of an attempt that waits to be asked, and asks it. Tells whether it waited.
-fn ask_once(simulation: &mut Simulation, actor: &mut Actor) -> Result<bool, Fail>
+fn ask_once(simulation: &mut Simulation<Free>, actor: &mut Actor) -> Result<bool, Fail>
     requires { simulation.old.settings.callers ≡ 2 }
     ensures { simulation.new.settings.callers ≡ 2 }
 {
@@ -152,7 +131,7 @@ fn ask_once(simulation: &mut Simulation, actor: &mut Actor) -> Result<bool, Fail
 }
 
 // Asks an attempt until it goes on by itself.
-fn ask_on(simulation: &mut Simulation, actor: &mut Actor) -> Result<(), Fail>
+fn ask_on(simulation: &mut Simulation<Free>, actor: &mut Actor) -> Result<(), Fail>
     requires { simulation.old.settings.callers ≡ 2 }
     ensures { simulation.new.settings.callers ≡ 2 }
 {
@@ -165,17 +144,18 @@ fn ask_on(simulation: &mut Simulation, actor: &mut Actor) -> Result<(), Fail>
 }
 
 // Makes the next access of an actor, or its ring. Tells whether there was one.
-fn turn(simulation: &mut Simulation, actor: &mut Actor) -> Result<bool, Fail>
+fn turn(simulation: &mut Simulation<Free>, actor: &mut Actor) -> Result<bool, Fail>
     requires { simulation.old.settings.callers ≡ 2 }
     ensures { simulation.new.settings.callers ≡ 2 }
 {
     let caller = actor.caller();
     let found = match simulation.next(caller) {
-        Some(Next::Access(access)) => word_at(simulation, target(access)),
-        Some(Next::Decide { .. }) => word_at(simulation, Word::Clock),
+        Some(Next::Access(access)) => simulation.word(access.word()),
+        Some(Next::Decide { .. }) => simulation.word(Word::Clock),
         Some(Next::Ring(_)) => None,
         _ => return Ok(false),
     };
+    the_free_law_owes_nothing();
     simulation.advance(caller)?;
     if let Some(word) = found {
         actor.found.push(word)?;
@@ -207,7 +187,7 @@ impl Pair {
     }
 
     fn value(&self, cell: u32) -> Option<u64> {
-        word_at(&self.simulation, Word::Value(Addr(cell)))
+        self.simulation.word(Word::Value(Addr(cell)))
     }
 
     fn ending(&self, second: bool) -> Option<Ending>

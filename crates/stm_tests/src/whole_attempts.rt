@@ -2,11 +2,12 @@
 ghost use Rattle.std.specs.Prelude.{◌≡◌, IfOk, length};
 
 use std::test::Fail;
-use stm_model::{Addr, Ask, Cause, Ending, Note, Policy, Settings};
+use stm_model::{Addr, Ask, Cause, Ending, Free, Note, Policy, Settings};
 use world_run::Simulation;
+use world_run::laws::the_free_law_owes_nothing;
 
 // Two cells with 5 and 7.
-fn opened(rt: &HostRuntime) -> Result<Simulation, Fail>
+fn opened(rt: &HostRuntime) -> Result<Simulation<Free>, Fail>
     ensures callers { IfOk result (λ simulation. simulation.settings.callers ≡ 1) }
     ensures cells { IfOk result (λ simulation. length simulation.opening ≡ 2) }
 {
@@ -17,12 +18,13 @@ fn opened(rt: &HostRuntime) -> Result<Simulation, Fail>
         clock: 9,
         attempts: 2,
     };
-    Ok(Simulation::new(rt.alloc(), settings, &[5, 7])?)
+    Ok(Simulation::new(rt.alloc(), Free, settings, &[5, 7])?)
 }
 
 #[test]
-#[tactic(auto, unfolding(world_run::specs::Simulation::IsTaken))]
+#[tactic(auto, unfolding(stm_core::specs::Machine::IsBuilt, stm_model::specs::Moves::MayAsk))]
 fn a_read_and_a_write_commit_and_leave_an_entry(rt: HostRuntime) -> Result<(), Fail> {
+    the_free_law_owes_nothing();
     let mut simulation = opened(&rt)?;
     let asks = [Ask::Get(Addr(0)), Ask::Set(Addr(1), 9)];
     let ending = simulation.run_attempt(1, &asks)?;
@@ -41,8 +43,9 @@ fn a_read_and_a_write_commit_and_leave_an_entry(rt: HostRuntime) -> Result<(), F
 }
 
 #[test]
-#[tactic(auto, unfolding(world_run::specs::Simulation::IsTaken, world_run::specs::Simulation::IsBodys))]
+#[tactic(auto, unfolding(stm_core::specs::Machine::IsBuilt, stm_model::specs::Moves::MayAsk))]
 fn who_asks_to_retry_leaves_no_entry(rt: HostRuntime) -> Result<(), Fail> {
+    the_free_law_owes_nothing();
     let mut simulation = opened(&rt)?;
     let asks = [Ask::Set(Addr(1), 9), Ask::Abandon(Cause::Retry)];
     let rolled = Ending::Rolled {
@@ -57,8 +60,9 @@ fn who_asks_to_retry_leaves_no_entry(rt: HostRuntime) -> Result<(), Fail> {
 }
 
 #[test]
-#[tactic(auto, unfolding(world_run::specs::Simulation::IsTaken))]
+#[tactic(auto, unfolding(stm_core::specs::Machine::IsBuilt, stm_model::specs::Moves::MayAsk))]
 fn a_later_attempt_reads_what_committed(rt: HostRuntime) -> Result<(), Fail> {
+    the_free_law_owes_nothing();
     let mut simulation = opened(&rt)?;
     simulation.run_attempt(1, &[Ask::Set(Addr(1), 9)])?;
     let reader = simulation.run_attempt(1, &[Ask::Get(Addr(1))])?;

@@ -1,41 +1,80 @@
 -- What an ask makes of a simulation.
-use Rattle.std.proofs.Common.{◌≡◌, ℕ, ◌-◌, ◌<◌, ◌≤◌, ◌^◌, ◌⊎◌, inl, inr, length, Option, Some, None, ap, sym, ◌∙◌, refl, subst, arith}
-use Rattle.stm_core.specs.Machine.{IsBuilt, IsRefused, Machine}
-use Rattle.stm_model.specs.Attempt.{Attempt}
-use Rattle.stm_model.specs.Moves.{AwaitsAsk, AwaitsAskAt, OutOfMemory, May, MayAbandon, MayAsk, Takes, moved}
+use Rattle.std.proofs.Common.{◌≡◌, ℕ, ◌-◌, ◌<◌, ◌≤◌, ◌^◌, ◌⊎◌, inl, inr, IsTrue, List, [], ◌∷◌, length, Option, Some, None, ap, sym, ◌∙◌, refl, subst, arith}
+use Rattle.stm_core.specs.Machine.{IsBuilt, IsRefused, Machine, after_due, next_of, standing}
+use Rattle.stm_core.specs.declared.next.Next.{Next}
+use Rattle.stm_core.specs.declared.next.Next.TheVariants.{Reply}
+use Rattle.stm_core.specs.declared.next.Reply.TheVariants as reply
+use Rattle.stm_model.specs.Attempt.{Attempt, Due, Ended, Late, Ready, Stage, Stopped, cause_at}
+use Rattle.stm_model.specs.Moves.{AwaitsAsk, AwaitsAskAt, OutOfMemory, May, MayAsk, Move, Takes, moved}
 use Rattle.stm_model.specs.World.{IsCaller, Moves, cells_in}
 use Rattle.stm_model.specs.declared.access.Ask.{Ask}
 use Rattle.stm_model.specs.declared.access.Ask.TheVariants.{Abandon, Finish, Get, Set}
 use Rattle.stm_model.specs.declared.cause.Cause.{Cause}
-use Rattle.stm_model.specs.declared.cause.Cause.TheVariants.{Memory, Retry, User}
-use Rattle.world_run.specs.Simulation.{Asked, Simulation, Happens, IsBodys, IsTaken, MayTakeAsk, Stands, attempt_in, latest, machine_at, terms_in}
+use Rattle.world_run.specs.Simulation.{Simulation, Happens, HasSameTerms, InvariantOn, IsAskable, attempt_in, latest, machine_at, terms_in}
+use Rattle.world_run.specs.Places.{IsAsked, MayBeAsked, TakesAsk}
 use Rattle.world_run.proofs.Flats.{flat_lacks, flat_takes}
-use Rattle.world_run.proofs.Turns.{Seat, moves, stands_moved, within}
+use Rattle.world_run.proofs.Seats.{Follows}
+use Rattle.world_run.proofs.Turns.{Seat, moves, own_seat, reseats, stands, was_own}
 
-built_of : (size : ℕ) (ask : Ask) → IsTaken size ask → IsBuilt ask
-unfolding IsTaken IsBuilt
-built_of size (Get cell) taken = tt
-built_of size (Set cell value) taken = tt
-built_of size Finish taken = tt
-built_of size (Abandon cause) taken = tt
-built_of size ask taken = absurd taken
+-- ---- what may be asked, by what was replied
 
-abandons : (t : Attempt) (cause : Cause) → IsBodys cause → MayAbandon t cause
-unfolding IsBodys
-abandons t Retry bodys = inl tt
-abandons t (User code) bodys = inl tt
-abandons t Memory bodys = inl tt
-abandons t cause bodys = absurd bodys
+-- what an attempt that waits replies tells the cause that it was refused with
+told_cause : (t : Attempt) (stage : Stage) (cause : Cause) → AwaitsAskAt stage → standing t stage ≡ Some (Reply (reply.Stopped cause)) → cause_at stage ≡ Some cause
+unfolding standing AwaitsAskAt cause_at
+told_cause t (Ready None) cause waits is = cc
+told_cause t (Ready (Some value)) cause waits is = cc
+told_cause t (Late token) cause waits is = cc
+told_cause t (Stopped other) cause waits is = cc
+told_cause t stage cause waits is = absurd waits
 
-may_ask : (size limit : ℕ) (t : Attempt) (ask : Ask) → size ≤ limit → t.turn ≡ 0 → IsTaken size ask → MayAsk limit t ask
-unfolding IsTaken MayAsk
-may_ask size limit t (Get cell) low first taken = omega (arith, low, taken)
-may_ask size limit t (Set cell value) low first taken = (let within : cell.0 < size = taken.0 in omega (arith, low, within), taken.1)
-may_ask size limit t Finish low first taken = first
-may_ask size limit t (Abandon cause) low first taken = abandons t cause taken
-may_ask size limit t ask low first taken = absurd taken
+cause_told : (t : Attempt) (stage : Stage) (cause : Cause) → cause_at stage ≡ Some cause → standing t stage ≡ Some (Reply (reply.Stopped cause))
+unfolding standing cause_at
+cause_told t (Stopped other) cause is = let same : other ≡ cause = cc in rw same refl
+cause_told t stage cause is = cc
 
-seat_waits : (c : Simulation) (p : ℕ) → AwaitsAskAt (attempt_in c p).stage → Seat c p
+waiting : (t : Attempt) (due : List Due) → due ≡ [] → after_due due (standing t t.stage) ≡ standing t t.stage
+unfolding after_due
+waiting t due none = rw none refl
+
+module _ (size : ℕ) (t : Attempt) (told : Next) (is : Some told ≡ next_of t) (first : t.turn ≡ 0) where
+  replied : AwaitsAsk t → Some told ≡ standing t t.stage
+  replied waits = is ∙ waiting t t.due waits.nothing_due
+
+  may_ask : (ask : Ask) → AwaitsAsk t → TakesAsk size told ask → IsBuilt ask × MayAsk size t ask
+  unfolding TakesAsk IsBuilt MayAsk
+  may_ask (Get cell) waits takes = (tt, takes)
+  may_ask (Set cell value) waits takes = (tt, takes)
+  may_ask Finish waits takes = (tt, first)
+  may_ask (Abandon cause) waits (inl own) = (tt, inl own)
+  may_ask (Abandon cause) waits (inr same) = (tt, inr (told_cause t t.stage cause waits.stands (sym (replied waits) ∙ ap Some same)))
+  may_ask ask waits takes = absurd takes
+
+  pub is_askable : (ask : Ask) → AwaitsAsk t → TakesAsk size told ask → IsAskable size t ask
+  is_askable ask waits takes =
+      let may = may_ask ask waits takes in
+      record { waits = waits; built = may.0; able = may.1 }
+
+  pub takes_ask : (ask : Ask) → IsAskable size t ask → TakesAsk size told ask
+  unfolding TakesAsk IsBuilt MayAsk
+  takes_ask (Get cell) askable = askable.able
+  takes_ask (Set cell value) askable = askable.able
+  takes_ask Finish askable = tt
+  takes_ask (Abandon cause) askable = elim askable.able [
+    | inl own ↦ inl own
+    | inr refused ↦ inr (let same : Some told ≡ Some (Reply (reply.Stopped cause)) = replied askable.waits ∙ cause_told t t.stage cause refused in cc)
+  ]
+  takes_ask ask askable = absurd askable.built
+
+-- More cells may be asked for where there are more.
+may_more : (size limit : ℕ) (t : Attempt) (ask : Ask) → size ≤ limit → MayAsk size t ask → MayAsk limit t ask
+unfolding MayAsk
+may_more size limit t (Get cell) low may = omega (arith, low, may)
+may_more size limit t (Set cell value) low may = (let within : cell.0 < size = may.0 in omega (arith, low, within), may.1)
+may_more size limit t ask low may = may
+
+-- ---- the ask
+
+seat_waits : {L : Type 0} (c : Simulation L) (p : ℕ) → AwaitsAskAt (attempt_in c p).stage → Seat c p
 unfolding AwaitsAskAt
 seat_waits c p waits = go (machine_at c p) refl
   where
@@ -43,55 +82,53 @@ seat_waits c p waits = go (machine_at c p) refl
     go None none = absurd (subst (λ (machine : Option Machine). AwaitsAskAt (latest c.settings p machine).stage) none waits)
     go (Some machine) some = record { machine = machine; there = some }
 
-module _ (before : Simulation) (count clock : ℕ) (old : Stands count clock before) (p : ℕ) (caller : IsCaller (terms_in before) p)
-    (ask : Ask) (short : length before.opening ≤ 2 ^ 32) (waits : AwaitsAsk (attempt_in before p)) (taken : IsTaken (length before.opening) ask) where
-  pub may_take_ask : MayTakeAsk before.machines (p - 1) ask
-  may_take_ask =
-      let seat = seat_waits before p waits.stands in
-      let own : attempt_in before p ≡ seat.machine.attempt = ap (λ (machine : Option Machine). latest before.settings p machine) seat.there in
+module _ {L : Type 0} {lawful : L → List ℕ → Type 0} {may : L → List ℕ → List ℕ → Type 0} {count clock : ℕ} {before : Simulation L}
+    (old : InvariantOn lawful may count clock before) (p : ℕ) (caller : IsCaller (terms_in before) p)
+    (ask : Ask) (askable : IsAskable (length before.opening) (attempt_in before p) ask) where
+  pub may_be_asked : length before.opening < 2 ^ 32 → MayBeAsked before.machines (p - 1) ask
+  may_be_asked short =
+      let seat = seat_waits before p askable.waits.stands in
+      let low : length before.opening ≤ 2 ^ 32 = omega (arith, short) in
       record {
         machine = seat.machine;
-        within = within before count clock old p caller;
-        there = seat.there;
-        waits = subst (λ (t : Attempt). AwaitsAsk t) own waits;
-        built = built_of (length before.opening) ask taken;
-        may = subst (λ (t : Attempt). MayAsk (2 ^ 32) t ask) own (may_ask (length before.opening) (2 ^ 32) (attempt_in before p) ask short (old.flat p caller).turn taken);
+        stands = stands old p caller seat;
+        askable = subst (λ (t : Attempt). IsAskable (2 ^ 32) t ask) (own_seat seat) (record {
+          waits = askable.waits;
+          built = askable.built;
+          able = may_more (length before.opening) (2 ^ 32) (attempt_in before p) ask low askable.able;
+        });
       }
 
-  module _ (after : Simulation) (opening : after.opening ≡ before.opening) (settings : after.settings ≡ before.settings)
-      (words : after.words ≡ before.words) (history : after.history ≡ before.history) (asked : Asked before.machines after.machines (p - 1) ask) where
-    own_asked : asked.was.attempt ≡ attempt_in before p
-    own_asked = sym (ap (λ (machine : Option Machine). latest before.settings p machine) asked.changes.there)
+  module _ {after : Simulation L} (terms : HasSameTerms before after) (words : after.words ≡ before.words) (history : after.history ≡ before.history)
+      (asked : IsAsked before.machines after.machines (p - 1) ask) where
+    abbrev t : Attempt
+    t = attempt_in before p
 
-    low : length before.opening ≤ length before.opening
-    low = omega arith
-
-    able_takes : May (cells_in (terms_in before)) (terms_in before).limit (attempt_in before p) (Takes ask)
+    may_take : May (cells_in (terms_in before)) (terms_in before).limit t (Takes ask)
     unfolding May
-    able_takes = (waits, may_ask (length before.opening) (length before.opening) (attempt_in before p) ask low (old.flat p caller).turn taken)
+    may_take = (askable.waits, askable.able)
 
-    able_lacks : IsRefused (attempt_in before p) ask asked.now.attempt → May (cells_in (terms_in before)) (terms_in before).limit (attempt_in before p) (OutOfMemory ask)
+    may_refuse : IsRefused t ask asked.now.attempt → May (cells_in (terms_in before)) (terms_in before).limit t (OutOfMemory ask)
     unfolding May
-    able_lacks refused = (waits, refused.going, may_ask (length before.opening) (length before.opening) (attempt_in before p) ask low (old.flat p caller).turn taken, refused.wants)
+    may_refuse refused = (askable.waits, refused.going, askable.able, refused.wants)
 
-    refused_own : IsRefused asked.was.attempt ask asked.now.attempt → IsRefused (attempt_in before p) ask asked.now.attempt
-    refused_own refused = subst (λ (t : Attempt). IsRefused t ask asked.now.attempt) own_asked refused
+    takes_own : (asked.now.attempt ≡ moved t (Takes ask)) ⊎ IsRefused t ask asked.now.attempt
+    takes_own = subst (λ (u : Attempt). (asked.now.attempt ≡ moved u (Takes ask)) ⊎ IsRefused u ask asked.now.attempt) (was_own old p caller asked.changes) asked.moves
 
-    takes_own : asked.now.attempt ≡ moved asked.was.attempt (Takes ask) → asked.now.attempt ≡ moved (attempt_in before p) (Takes ask)
-    takes_own is = is ∙ ap (λ (t : Attempt). moved t (Takes ask)) own_asked
-
-    pub asks : Happens before (Moves p (Takes ask)) after ⊎ Happens before (Moves p (OutOfMemory ask)) after
-    asks = elim asked.moves [
-      | inl is ↦ inl (moves before count clock old p caller (Takes ask) able_takes after opening settings words history asked.now asked.changes.others (takes_own is))
-      | inr refused ↦ let own = refused_own refused in
-          inr (moves before count clock old p caller (OutOfMemory ask) (able_lacks own) after opening settings words history asked.now asked.changes.others own.stops)
+    pub asks : Follows lawful may count clock before (Moves p (Takes ask)) after ⊎ Follows lawful may count clock before (Moves p (OutOfMemory ask)) after
+    asks = elim takes_own [
+      | inl is ↦ inl (moves old p caller (Takes ask) may_take (reseats old p caller terms asked.changes) words history is (flat_takes t ask askable.built (old.whole.flat p caller)))
+      | inr refused ↦ inr (moves old p caller (OutOfMemory ask) (may_refuse refused) (reseats old p caller terms asked.changes) words history refused.stops (flat_lacks t ask (old.whole.flat p caller)))
     ]
 
-    pub stands_asked : Stands count clock after
-    stands_asked = elim asked.moves [
-      | inl is ↦ stands_moved before count clock old p caller (Takes ask) able_takes after opening settings words history asked.now asked.changes.others (takes_own is)
-          (flat_takes (attempt_in before p) ask (built_of (length before.opening) ask taken) (old.flat p caller))
-      | inr refused ↦ let own = refused_own refused in
-          stands_moved before count clock old p caller (OutOfMemory ask) (able_lacks own) after opening settings words history asked.now asked.changes.others own.stops
-          (flat_lacks (attempt_in before p) ask (old.flat p caller))
+    pub asked_happens : Happens lawful may before (Moves p (Takes ask)) after ⊎ Happens lawful may before (Moves p (OutOfMemory ask)) after
+    asked_happens = elim asks [
+      | inl takes ↦ inl takes.happens
+      | inr refuses ↦ inr refuses.happens
+    ]
+
+    pub asked_invariant : InvariantOn lawful may count clock after
+    asked_invariant = elim asks [
+      | inl takes ↦ takes.invariant
+      | inr refuses ↦ refuses.invariant
     ]

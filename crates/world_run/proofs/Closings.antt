@@ -2,20 +2,18 @@
 use Rattle.std.proofs.Common.{◌≡◌, ◌⊎◌, inl, inr, ℕ, suc, Bool, true, false, nat_eq, nat_lt, List, [], ◌∷◌, drop, IsTrue, Option, Some, None, ap, sym, ◌∙◌, refl, if◌then◌else◌}
 use Rattle.meta_word.specs.Meta.{still_has}
 use Rattle.meta_word.specs.declared.status.Phase.TheVariants.{Preparing}
-use Rattle.opacity.proofs.Places.{attempt_here}
 use Rattle.stm_core.specs.Machine.{next_of}
 use Rattle.stm_model.specs.Accesses.{Act, Answer, Number, OfMeta, OfStatus, active, next, next_at, unless_due}
 use Rattle.meta_word.specs.Status.{same_status}
-use Rattle.stm_model.specs.After.{after_at, validate_on, note_validated, decided, mark_on, prepared, release_on, ring_if, roll_on, rolled, run_all, store_on}
+use Rattle.stm_model.specs.After.{after, after_at, validate_on, note_validated, decided, mark_on, prepared, release_on, ring_if, roll_on, rolled, run_all, store_on}
 use Rattle.stm_model.specs.Attempt.{Attempt, Due, Run, Ring, Stage, Write, Announce, Begin, Ready, Late, Stopped, ReadMeta, ExtendClock, ExtendNote, ReadValue, Validate, AcquireMeta, Acquire, OwnerStatus, OwnerMeta, DoomOwner, ReleaseLevel, Prepare, Mark, CommitClock, CommitNote, Decide, StoreValues, Release, RollBack, Close, Ended}
 use Rattle.stm_model.specs.Handlers.{committing, preparing}
 use Rattle.stm_model.specs.Moves.{AwaitsAsk, AwaitsAskAt, Does, Takes, asked_at, asked_going, asked_stopped, conclude, did_first, moved, turn_to}
-use Rattle.stm_model.specs.World.{World, attempt_of, step, step_by, view_after, words_after}
 use Rattle.stm_model.specs.declared.access.Ask.TheVariants.{Finish}
 use Rattle.stm_model.specs.declared.cause.Cause.{Cause}
 use Rattle.stm_model.specs.declared.ending.Ending.TheVariants.{Committed, Rolled}
 use Rattle.stm_model.specs.declared.note.Note.{Note}
-use Rattle.world_run.specs.Simulation.{IsFlat, replies}
+use Rattle.world_run.specs.Simulation.{IsFlat, IsOver, replies}
 use Rattle.world_run.specs.Run.{IsClosing}
 use Rattle.world_run.proofs.Nexts.{is_quiet}
 
@@ -88,14 +86,8 @@ after_closing t (DoomOwner cell value left first second status) answer is closin
 after_closing t (ReleaseLevel kept write behind) answer is closing = absurd closing
 after_closing t stage answer is closing = rw is closing
 
-pub closing_step : (w : World) (p : ℕ) → IsClosing (attempt_of w p).stage → IsClosing (attempt_of (step w p) p).stage
-unfolding step_by
-closing_step w p closing = go (next (attempt_of w p))
-  where
-    go : (this : Option Act) → IsClosing (attempt_of (step_by w p this) p).stage
-    go None = closing
-    go (Some act) =
-        rw (attempt_here (words_after w (attempt_of w p) act) p (view_after w (w.view p) act)) (after_closing (attempt_of w p) (attempt_of w p).stage _ refl closing)
+pub closing_after : (t : Attempt) (answer : Answer) → IsClosing t.stage → IsClosing (after t answer).stage
+closing_after t answer closing = after_closing t t.stage answer refl closing
 
 pub closing_does : (t : Attempt) → IsClosing t.stage → IsClosing (moved t Does).stage
 unfolding moved
@@ -147,17 +139,17 @@ rests_at t Ended is = inr refl
 rests_at t stage is = cc
 
 -- Who replies waits to be asked, or is over.
-pub replies_so : (t : Attempt) → IsTrue (replies (next_of t)) → AwaitsAsk t ⊎ ((t.stage ≡ Ended) × (t.due ≡ []))
+pub replies_so : (t : Attempt) → IsTrue (replies (next_of t)) → AwaitsAsk t ⊎ IsOver t
 replies_so t is =
     let both = is_quiet t (next_of t) refl is in
     let none : next_at t t.stage ≡ None = ap (λ (due : List Due). unless_due due (next_at t t.stage)) (sym both.1) ∙ both.0 in
     elim (rests_at t t.stage none) [
       | inl waits ↦ inl (record { stands = waits; nothing_due = both.1 })
-      | inr over ↦ inr (over, both.1)
+      | inr over ↦ inr (record { ended = over; nothing_due = both.1 })
     ]
 
 -- Who replies and is closing is over.
-pub ends_settled : (t : Attempt) → IsClosing t.stage → IsTrue (replies (next_of t)) → (t.stage ≡ Ended) × (t.due ≡ [])
+pub ends_settled : (t : Attempt) → IsClosing t.stage → IsTrue (replies (next_of t)) → IsOver t
 ends_settled t closing is = elim (replies_so t is) [
   | inl waits ↦ closing_waits t.stage closing waits.stands
   | inr over ↦ over
@@ -168,5 +160,5 @@ pub ended_closing : (t : Attempt) → IsTrue (replies (next_of t)) → (AwaitsAs
 unfolding IsClosing
 ended_closing t is not = elim (replies_so t is) [
   | inl waits ↦ absurd (not waits)
-  | inr over ↦ rw over.0 tt
+  | inr over ↦ rw over.ended tt
 ]

@@ -13,10 +13,9 @@ use Rattle.stm_model.specs.World.{IsCaller, Terms, World, attempt_of, entry_of}
 use Rattle.stm_model.specs.declared.ending.Ending.{Ending}
 use Rattle.stm_model.specs.declared.ending.Ending.TheVariants.{Committed, Read, Rolled}
 use Rattle.world_run.specs.Run.{IsOf, Leaves}
-use Rattle.world_run.proofs.Seats.{free, freely}
 
 -- The attempt is one that stands, undecided, in a safe world v, and later in a safe world w. What came between is its own.
-module _ (terms : Terms) (v w : World) (p : ℕ) (safe_before : Safe free freely terms v) (safe : Safe free freely terms w) (caller : IsCaller terms p)
+module _ {lawful : List ℕ → Type 0} {may : List ℕ → List ℕ → Type 0} {terms : Terms} {v w : World} (p : ℕ) (safe_before : Safe lawful may terms v) (safe : Safe lawful may terms w) (caller : IsCaller terms p)
     (kept : IsKept (attempt_of v p).stage (attempt_of v p).ending) (undecided : stamp_of (attempt_of v p) ≡ 0)
     (same : IsSameAttempt (attempt_of v p) (attempt_of w p)) where
   abbrev t : Attempt

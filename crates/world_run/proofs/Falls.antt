@@ -6,7 +6,8 @@ use Rattle.stm_model.specs.After.{after_word}
 use Rattle.stm_model.specs.Attempt.{Attempt, Due, Ring, Run}
 use Rattle.stm_model.specs.Moves.{Does, did_first, moved}
 use Rattle.stm_model.specs.World.{IsCaller}
-use Rattle.world_run.specs.Simulation.{Changes, Simulation, Did, IsFlat, Stands, Took, attempt_in, latest, left_of, moves_left, terms_in}
+use Rattle.world_run.specs.Simulation.{Simulation, Invariant, IsFlat, attempt_in, latest, left_of, moves_left, terms_in}
+use Rattle.world_run.specs.Places.{Changes, IsDone, IsGivenWord}
 use Rattle.world_run.proofs.Flats.{flat_after}
 
 there_now : (before after : List (Option Machine)) (place : ℕ) (was now : Machine) → Changes before after place was now → get_or after place None ≡ Some now
@@ -22,20 +23,20 @@ less_due t some = go t.due some
     go (Run phase token ∷ dues) some = omega arith
     go (Ring cell ∷ dues) some = omega arith
 
-module _ (before : Simulation) (count clock : ℕ) (old : Stands count clock before) (p : ℕ) (caller : IsCaller (terms_in before) p) (after : List (Option Machine)) where
-  pub took_falls : (found : ℕ) → Took before.machines after (p - 1) found → moves_left (get_or after (p - 1) None) < left_of before p
-  took_falls found took =
-      let own : attempt_in before p ≡ took.was.attempt = ap (λ (machine : Option Machine). latest before.settings p machine) took.changes.there in
-      let flat : IsFlat took.was.attempt = subst (λ (t : Attempt). IsFlat t) own (old.flat p caller) in
-      let few : length (after_word took.was.attempt found).due ≤ 1 = (flat_after took.was.attempt found flat).due in
-      let one : length took.now.attempt.due ≤ 1 = rw took.attempt few in
-      let less : 2 * took.now.left + length took.now.attempt.due < 2 * took.was.left + length took.was.attempt.due = omega (arith, one, took.falls) in
-      rw (there_now before.machines after (p - 1) took.was took.now took.changes, took.changes.there) less
+module _ {L : Type 0} {lawful : L → List ℕ → Type 0} {may : L → List ℕ → List ℕ → Type 0} {before : Simulation L} (old : Invariant lawful may before) (p : ℕ) (caller : IsCaller (terms_in before) p) (after : List (Option Machine)) where
+  pub took_falls : (found : ℕ) → IsGivenWord before.machines after (p - 1) found → moves_left (get_or after (p - 1) None) < left_of before p
+  took_falls found given =
+      let own : attempt_in before p ≡ given.was.attempt = ap (λ (machine : Option Machine). latest before.settings p machine) given.changes.there in
+      let flat : IsFlat given.was.attempt = subst (λ (t : Attempt). IsFlat t) own (old.flat p caller) in
+      let few : length (after_word given.was.attempt found).due ≤ 1 = (flat_after given.was.attempt found flat).due in
+      let one : length given.now.attempt.due ≤ 1 = rw given.attempt few in
+      let less : 2 * given.now.left + length given.now.attempt.due < 2 * given.was.left + length given.was.attempt.due = omega (arith, one, given.falls) in
+      rw (there_now before.machines after (p - 1) given.was given.now given.changes, given.changes.there) less
 
-  pub did_falls : 0 < length (attempt_in before p).due → Did before.machines after (p - 1) → moves_left (get_or after (p - 1) None) < left_of before p
-  did_falls some did =
-      let own : attempt_in before p ≡ did.was.attempt = ap (λ (machine : Option Machine). latest before.settings p machine) did.changes.there in
-      let due : 0 < length did.was.attempt.due = rw own at some in
-      let fewer : length did.now.attempt.due < length did.was.attempt.due = rw did.attempt (less_due did.was.attempt due) in
-      let less : 2 * did.now.left + length did.now.attempt.due < 2 * did.was.left + length did.was.attempt.due = omega (arith, fewer, did.left) in
-      rw (there_now before.machines after (p - 1) did.was did.now did.changes, did.changes.there) less
+  pub did_falls : 0 < length (attempt_in before p).due → IsDone before.machines after (p - 1) → moves_left (get_or after (p - 1) None) < left_of before p
+  did_falls some done =
+      let own : attempt_in before p ≡ done.was.attempt = ap (λ (machine : Option Machine). latest before.settings p machine) done.changes.there in
+      let due : 0 < length done.was.attempt.due = rw own at some in
+      let fewer : length done.now.attempt.due < length done.was.attempt.due = rw done.attempt (less_due done.was.attempt due) in
+      let less : 2 * done.now.left + length done.now.attempt.due < 2 * done.was.left + length done.was.attempt.due = omega (arith, fewer, done.left) in
+      rw (there_now before.machines after (p - 1) done.was done.now done.changes, done.changes.there) less

@@ -5,9 +5,12 @@ pub mod Flats
 pub mod Turns
 pub mod Openings
 pub mod Asks
-pub mod Finds
 pub mod Falls
 pub mod Closings
 pub mod Entries
 pub mod Going
+pub mod Bodies
 pub mod Ran
+pub mod Truths
+pub mod Owing
+pub mod Free

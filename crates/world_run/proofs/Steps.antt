@@ -3,7 +3,7 @@ use Rattle.std.proofs.Common.{◌≡◌, ℕ, ◌-◌, ◌<◌, ◌≤◌, List,
 use Rattle.std.proofs.lemmas.Grind.{common_steps}
 use Rattle.opacity.specs.Plain.{AreAttempts}
 use Rattle.opacity.specs.Words.{IsOfTable, word_found}
-use Rattle.opacity.proofs.NextAccess.{good_next}
+use Rattle.opacity.proofs.NextAccess.{fits_next}
 use Rattle.opacity.proofs.Places.{attempt_here}
 use Rattle.opacity.proofs.WordSteps.{found_word}
 use Rattle.stm_core.specs.Machine.{ClockFits, Machine, in_flight}
@@ -16,7 +16,6 @@ use Rattle.stm_model.specs.Shown.{shown_by}
 use Rattle.stm_model.specs.World.{IsCaller, Terms, View, World, attempt_of, found, place_of, step, step_by, view_after, words_after, world_of}
 use Rattle.stm_model.specs.declared.settings.Settings.{Settings}
 use Rattle.world_run.specs.Simulation.{Simulation, Shows, latest, machine_at, terms_in}
-use Rattle.world_run.proofs.Seats.{free, freely}
 
 -- what an attempt tells of itself
 abbrev pub tells : Machine → Option Attempt
@@ -39,31 +38,32 @@ unfolding flies_at
 resting settings p None = refl
 resting settings p (Some machine) = tells_none machine.attempt (is_in_flight machine.attempt) refl
 
-module _ (c : Simulation) (w : World) (shows : Shows c w) (size : length c.machines ≡ c.settings.callers) where
+module _ {L : Type 0} {lawful : L → List ℕ → Type 0} {may : L → List ℕ → List ℕ → Type 0} {c : Simulation L} {w : World} (shows : Shows lawful may c w) where
+  -- the world by the words of the table
   abbrev pub ground : World
   ground = world_of (terms_in c) c.words c.history w.view
 
-  pub ground_safe : Safe free freely (terms_in c) ground
-  ground_safe = subst (λ (v : World). Safe free freely (terms_in c) v) shows.words shows.safe
+  pub ground_safe : Safe (lawful c.law) (may c.law) (terms_in c) ground
+  ground_safe = subst (λ (v : World). Safe (lawful c.law) (may c.law) (terms_in c) v) shows.words shows.safe
 
-  own_seat : (p : ℕ) (d : Option Machine) → 0 < p → p ≤ c.settings.callers → get_or c.machines (p - 1) d ≡ machine_at c p
-  own_seat p d above within = grind (arith, common_steps, size)
+  own_seat : (p : ℕ) (d : Option Machine) → length c.machines ≡ c.settings.callers → 0 < p → p ≤ c.settings.callers → get_or c.machines (p - 1) d ≡ machine_at c p
+  own_seat p d size above within = grind (arith, common_steps, size)
 
-  pub crew_shown : AreAttempts (shown_by tells) c.settings.callers c.machines w.view
-  crew_shown = record {
+  pub attempts_shown : length c.machines ≡ c.settings.callers → AreAttempts (shown_by tells) c.settings.callers c.machines w.view
+  attempts_shown size = record {
     size = size;
-    in_flight = λ p d above within. rw (own_seat p d above within, shows.attempts p (above, within)) (flying c.settings p (machine_at c p));
-    at_rest = λ p d above within. rw (own_seat p d above within, shows.attempts p (above, within)) (resting c.settings p (machine_at c p));
+    in_flight = λ p d above within. rw (own_seat p d size above within, shows.attempts p (above, within)) (flying c.settings p (machine_at c p));
+    at_rest = λ p d above within. rw (own_seat p d size above within, shows.attempts p (above, within)) (resting c.settings p (machine_at c p));
   }
 
-module _ (terms : Terms) (words : List ℕ) (history : List Entry) (view : ℕ → View) (p : ℕ) (act : Act)
-    (safe : Safe free freely terms (world_of terms words history view)) (caller : IsCaller terms p) (is : next (view p).attempt ≡ Some act) where
+module _ (lawful : List ℕ → Type 0) (may : List ℕ → List ℕ → Type 0) (terms : Terms) (words : List ℕ) (history : List Entry) (view : ℕ → View) (p : ℕ) (act : Act)
+    (safe : Safe lawful may terms (world_of terms words history view)) (caller : IsCaller terms p) (is : next (view p).attempt ≡ Some act) where
   abbrev here : World
   here = world_of terms words history view
 
   pub of_table : IsOfTable terms (word_of (access_of act))
   unfolding world_of
-  of_table = (good_next free freely terms here p safe caller act is).word
+  of_table = (fits_next lawful may terms here p safe caller act is).word
 
   own_by : (this : Option Act) → this ≡ Some act → attempt_of (step_by here p this) p ≡ after (view p).attempt (found here act)
   unfolding world_of step_by

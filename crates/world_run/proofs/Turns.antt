@@ -1,38 +1,46 @@
--- What a step, an exchange of the clock and a ring of a caller make of a simulation.
+-- What a step, an exchange of the clock and a local move of a caller make of a simulation.
 use Rattle.std.proofs.Common.{◌≡◌, ℕ, suc, ◌+◌, ◌-◌, ◌<◌, ◌≤◌, List, [], ◌∷◌, length, get_or, set, Option, Some, None, ap, sym, ◌∙◌, refl, subst, arith}
 use Rattle.std.proofs.lemmas.Grind.{common_steps}
-use Rattle.opacity.specs.Plain.{AreAttempts, ShowsSafe, terms_of, writes_in}
+use Rattle.opacity.specs.Plain.{AreAttempts, MayDecide, ShowsAccess, ShowsSafe, terms_of, writes_in}
 use Rattle.opacity.specs.Words.{IsOfTable, word_found}
-use Rattle.stm_core.specs.Machine.{ClockFits, Machine, after_due, next_of, standing}
+use Rattle.stm_core.specs.Machine.{ClockFits, Decides, Machine, Makes, after_due, next_of, standing}
 use Rattle.op_commit.specs.Buffered.{buffered}
 use Rattle.stm_core.specs.declared.next.Next.TheVariants as coming
 use Rattle.meta_word.specs.declared.meta.TheConstants.{MAX_VERSION}
-use Rattle.stm_model.specs.Accesses.{Act, ExchangeClock, access_of, next, next_at, word_of}
+use Rattle.stm_model.specs.Accesses.{Act, ExchangeClock, access_of, next, next_access, next_at, packed, word_of}
 use Rattle.stm_model.specs.After.{after_word}
 use Rattle.stm_model.specs.Attempt.{Announce, Attempt, Ended, Write, no_attempt}
 use Rattle.stm_model.specs.History.{Entry}
 use Rattle.stm_model.specs.Moves.{Begins, Does, May, Move, moved}
 use Rattle.stm_model.specs.Safe.{Safe, SerialAt}
 use Rattle.stm_model.specs.Shown.{shown_by}
-use Rattle.stm_model.specs.World.{IsCaller, MayHappen, Moves, Steps, Terms, View, World, attempt_of, cells_in, happened, place_of, step, step_by, world_of}
+use Rattle.stm_model.specs.World.{IsCaller, MayHappen, MeetsOwed, Moves, Steps, Terms, View, World, attempt_of, cells_in, happened, place_of, step, step_by, world_of}
+use Rattle.stm_model.specs.declared.access.Access.{Access}
+use Rattle.stm_model.specs.declared.note.Note.{Note}
 use Rattle.stm_model.specs.declared.settings.Settings.{Settings}
 use Rattle.meta_word.specs.Status.{status_of}
 use Rattle.meta_word.specs.declared.status.TxnStatus.{TxnStatus}
 use Rattle.opacity.proofs.Places.{attempt_here}
+use Rattle.opacity.proofs.Steps.{event_safe}
 use Rattle.opacity.proofs.Tables.{status_in, status_own}
-use Rattle.world_run.specs.Simulation.{Simulation, Did, Happens, HasDue, IsFlat, MayTake, Shows, Stands, Took, attempt_in, latest, machine_at, terms_in}
+use Rattle.world_run.specs.Simulation.{Simulation, Advances, HasSameTerms, Happens, InvariantOn, IsFlat, IsOver, IsSameOf, MeetsOwedNext, Shows, attempt_in, latest, machine_at, terms_in}
+use Rattle.world_run.specs.Places.{Changes, HasDue, IsDone, IsGivenWord, MayBeGiven, StandsAt}
+use Rattle.world_run.proofs.Falls.{did_falls, took_falls}
 use Rattle.world_run.proofs.Flats.{flat_after, flat_does}
-use Rattle.world_run.proofs.Nexts.{below_limit}
-use Rattle.world_run.proofs.Seats.{free, freely, happens, stands}
-use Rattle.world_run.proofs.Steps.{clock_fits, crew_shown, ground_safe, of_table, own_step, tells}
+use Rattle.world_run.proofs.Seats.{Follows, Reseats, none_changed, own_now, there_now}
+use Rattle.world_run.proofs.Seats as seats
+use Rattle.world_run.proofs.Steps.{attempts_shown, clock_fits, ground, ground_safe, of_table, own_step, tells}
 
 -- a seat that is taken
-pub record Seat (c : Simulation) (p : ℕ) : Type 0 where
+pub record Seat {L : Type 0} (c : Simulation L) (p : ℕ) : Type 0 where
   pub machine : Machine
   pub there : machine_at c p ≡ Some machine
 
+pub own_seat : {L : Type 0} {c : Simulation L} {p : ℕ} (seat : Seat c p) → attempt_in c p ≡ seat.machine.attempt
+own_seat {c = c} {p = p} seat = ap (λ (machine : Option Machine). latest c.settings p machine) seat.there
+
 -- Who makes an access has an attempt.
-pub seat_of : (c : Simulation) (p : ℕ) (act : Act) → next (attempt_in c p) ≡ Some act → Seat c p
+seat_of : {L : Type 0} (c : Simulation L) (p : ℕ) (act : Act) → next (attempt_in c p) ≡ Some act → Seat c p
 unfolding next_at
 seat_of c p act is = go (machine_at c p) refl
   where
@@ -49,12 +57,12 @@ seat_is settings p machines low found machine same some =
 
 -- Who has begun no attempt doesn't exchange the clock.
 pub nobody_decides : {A : Type 0} (settings : Settings) (p : ℕ) (machines : List (Option Machine)) (found : Option Machine) → found ≡ get_or machines (p - 1) found → found ≡ None
-    → (old : ℕ) → next_of (latest settings p (get_or machines (p - 1) None)) ≡ Some (coming.Decide old) → A
-unfolding after_due standing
-nobody_decides settings p machines found same none old next =
+    → (old : ℕ) → Decides (latest settings p (get_or machines (p - 1) None)) old → A
+unfolding next_at
+nobody_decides settings p machines found same none old decides =
     let named = rw none at same in
     let here : get_or machines (p - 1) None ≡ None = sym named in
-    let never : next_of (latest settings p None) ≡ Some (coming.Decide old) = rw here at next in cc
+    let never : next (latest settings p None) ≡ Some (ExchangeClock old) = rw here at decides.next in cc
 
 -- What the exchange of the clock finds is the clock.
 pub clock_found : (terms : Terms) (words : List ℕ) (taken : ℕ) → word_found terms words (access_of (ExchangeClock taken)) ≡ get_or words 0 0
@@ -67,196 +75,267 @@ writes_back [] = refl
 writes_back (write ∷ writes) = ap (λ (behind : List Write). write ∷ behind) (writes_back writes)
 
 -- Who does nothing leaves the world as it is.
-pub idle : (c : Simulation) (p : ℕ) → IsCaller (terms_in c) p → next (attempt_in c p) ≡ None → Happens c (Steps p) c
+pub idle : {L : Type 0} (lawful : L → List ℕ → Type 0) (may : L → List ℕ → List ℕ → Type 0) (c : Simulation L) (p : ℕ) → IsCaller (terms_in c) p → next (attempt_in c p) ≡ None
+    → Happens lawful may c (Steps p) c
 unfolding happened MayHappen step_by
-idle c p caller none = record {
-  opening = refl;
-  settings = refl;
-  may = λ w shows. caller;
+idle lawful may c p caller none = record {
+  terms = none_changed c;
+  able = λ w shows. caller;
   shows = λ w shows.
       let no_act : next (attempt_of w p) ≡ None = rw (shows.attempts p caller) none in
-      subst (λ (v : World). Shows c v) (sym (ap (λ (this : Option Act). step_by w p this) no_act)) shows;
+      subst (λ (v : World). Shows lawful may c v) (sym (ap (λ (this : Option Act). step_by w p this) no_act)) shows;
 }
 
-module _ (before : Simulation) (count clock : ℕ) (old : Stands count clock before) (p : ℕ) (caller : IsCaller (terms_in before) p) where
+module _ {L : Type 0} {lawful : L → List ℕ → Type 0} {may : L → List ℕ → List ℕ → Type 0} {count clock : ℕ} {before : Simulation L}
+    (old : InvariantOn lawful may count clock before) (p : ℕ) (caller : IsCaller (terms_in before) p) where
   pub within : p - 1 < length before.machines
-  within = let above : 0 < p = caller.0 in let low : p ≤ before.settings.callers = caller.1 in omega (arith, above, low, old.size)
+  within = let above : 0 < p = caller.0 in let low : p ≤ before.settings.callers = caller.1 in omega (arith, above, low, old.whole.size)
 
-  pub terms_is : terms_of before.opening count clock ≡ terms_in before
-  terms_is = λ i. record { opening = before.opening; callers = old.callers i; limit = old.limit i }
+  pub stands : (seat : Seat before p) → StandsAt before.machines (p - 1) seat.machine
+  stands seat = record { within = within; there = seat.there }
 
-  abbrev view : ℕ → View
-  view = old.world.view
-
-  abbrev here : World
-  here = world_of (terms_in before) before.words before.history view
-
-  safe : Safe free freely (terms_in before) here
-  safe = ground_safe before old.world old.shows old.size
-
-  -- The table counts its callers itself.
+  -- the terms by the table's own count and limit
   abbrev pub table : Terms
   table = terms_of before.opening count clock
 
-  pub crew_of : (w : World) → Shows before w → AreAttempts (shown_by tells) count before.machines w.view
-  crew_of w shows = subst (λ (callers : ℕ). AreAttempts (shown_by tells) callers before.machines w.view) (sym old.callers) (crew_shown before w shows old.size)
+  pub table_is : table ≡ terms_in before
+  table_is = λ i. record { opening = before.opening; callers = old.callers i; limit = old.limit i }
 
-  pub safe_of : (w : World) → Shows before w → Safe free freely table (world_of table before.words before.history w.view)
-  safe_of w shows = subst (λ (terms : Terms). Safe free freely terms (world_of terms before.words before.history w.view)) (sym terms_is) (ground_safe before w shows old.size)
+  pub caller_of_table : IsCaller table p
+  caller_of_table = subst (λ (terms : Terms). IsCaller terms p) (sym table_is) caller
 
-  pub turned : (w : World) (words : List ℕ) (history : List Entry)
-      → ShowsSafe free freely table words history (step (world_of table before.words before.history w.view) p)
-      → (let ground = world_of (terms_in before) before.words before.history w.view in step ground p ≡ world_of (terms_in before) words history (step ground p).view)
-  turned w words history showing =
-      subst (λ (terms : Terms). (let ground = world_of terms before.words before.history w.view in step ground p ≡ world_of terms words history (step ground p).view)) terms_is showing.shows
+  attempts_of : (w : World) → Shows lawful may before w → AreAttempts (shown_by tells) count before.machines w.view
+  attempts_of w shows = subst (λ (callers : ℕ). AreAttempts (shown_by tells) callers before.machines w.view) (sym old.callers) (attempts_shown shows old.whole.size)
+
+  safe_of : (w : World) → Shows lawful may before w → Safe (lawful before.law) (may before.law) table (world_of table before.words before.history w.view)
+  safe_of w shows = subst (λ (terms : Terms). Safe (lawful before.law) (may before.law) terms (world_of terms before.words before.history w.view)) (sym table_is) (ground_safe shows)
+
+  pub was_own : {machines : List (Option Machine)} {was now : Machine} → Changes before.machines machines (p - 1) was now → was.attempt ≡ attempt_in before p
+  was_own changes = sym (ap (λ (machine : Option Machine). latest before.settings p machine) changes.there)
+
+  pub reseats : {after : Simulation L} {was now : Machine} → HasSameTerms before after → Changes before.machines after.machines (p - 1) was now → Reseats p before after now
+  reseats terms changes = record { terms = terms; within = changes.within; machines = changes.others }
+
+  pub same_of : {after : Simulation L} {was now : Machine} → HasSameTerms before after → Changes before.machines after.machines (p - 1) was now → IsSameOf p before after
+  same_of {after = after} {now = now} terms changes =
+      let own : attempt_in after p ≡ now.attempt = own_now caller (reseats terms changes) in
+      record {
+        begun = λ some. rw (there_now caller (reseats terms changes)) refl;
+        same = rw (own, ← was_own changes) changes.same;
+      }
 
   -- The clock that is exchanged is below its limit.
-  pub clock_below : (taken : ℕ) → next (attempt_in before p) ≡ Some (ExchangeClock taken) → taken < MAX_VERSION
-  clock_below taken takes =
-      let safe_own = (old.shows.safe.attempts p caller).stage in
-      let low : taken < (terms_in before).limit = below_limit (terms_in before) old.world (attempt_of old.world p) taken (rw (old.shows.attempts p caller) takes) safe_own in
-      let fits : (terms_in before).limit ≤ MAX_VERSION = old.shows.safe.fits.limit in
-      omega (arith, low, fits)
+  pub clock_below : (taken : ℕ) → Decides (attempt_in before p) taken → taken < MAX_VERSION
+  clock_below taken decides =
+      let safe = old.whole.shows.safe in
+      let limit : (attempt_in before p).settings.clock ≡ (terms_in before).limit = subst (λ (t : Attempt). t.settings.clock ≡ (terms_in before).limit) (old.whole.shows.attempts p caller) (safe.attempts p caller).limit in
+      let fits : (terms_in before).limit ≤ MAX_VERSION = safe.fits.limit in
+      omega (arith, decides.below, limit, fits)
+
+  -- ---- accesses
 
   module _ (act : Act) (is : next (attempt_in before p) ≡ Some act) where
-    pub view_next : (w : World) → Shows before w → next (w.view p).attempt ≡ Some act
+    view_next : (w : World) → Shows lawful may before w → next (w.view p).attempt ≡ Some act
     view_next w shows = rw (shows.attempts p caller) is
 
-    pub act_of_table : IsOfTable (terms_of before.opening count clock) (word_of (access_of act))
-    act_of_table = rw terms_is (of_table (terms_in before) before.words before.history view p act safe caller (view_next old.world old.shows))
+    pub act_of_table : IsOfTable table (word_of (access_of act))
+    act_of_table = rw table_is (of_table (lawful before.law) (may before.law) (terms_in before) before.words before.history old.whole.world.view p act
+        (ground_safe old.whole.shows) caller (view_next old.whole.world old.whole.shows))
 
-    pub may_take : (found : ℕ) → found ≡ word_found (terms_of before.opening count clock) before.words (access_of act) → MayTake before.machines (p - 1) found
-    may_take found same =
+    pub may_be_given : (found : ℕ) → found ≡ word_found table before.words (access_of act) → MayBeGiven before.machines (p - 1) found
+    may_be_given found same =
         let seat = seat_of before p act is in
-        let own : attempt_in before p ≡ seat.machine.attempt = ap (λ (machine : Option Machine). latest before.settings p machine) seat.there in
-        let view_own : (view p).attempt ≡ seat.machine.attempt = old.shows.attempts p caller ∙ own in
+        let shows = old.whole.shows in
+        let view_own : (old.whole.world.view p).attempt ≡ seat.machine.attempt = shows.attempts p caller ∙ own_seat seat in
         record {
           machine = seat.machine;
-          within = within;
-          there = seat.there;
-          going = rw (← own, is) refl;
-          clock = rw same
-              (subst (λ (terms : Terms). ClockFits seat.machine.attempt (next seat.machine.attempt) (word_found terms before.words (access_of act))) (sym terms_is)
-              (subst (λ (t : Attempt). ClockFits t (next t) (word_found (terms_in before) before.words (access_of act))) view_own
-              (clock_fits (terms_in before) before.words before.history view p act safe caller (view_next old.world old.shows))));
+          stands = stands seat;
+          able = record {
+            going = rw (← own_seat seat, is) refl;
+            clock = rw same
+                (subst (λ (terms : Terms). ClockFits seat.machine.attempt (next seat.machine.attempt) (word_found terms before.words (access_of act))) (sym table_is)
+                (subst (λ (t : Attempt). ClockFits t (next t) (word_found (terms_in before) before.words (access_of act))) view_own
+                (clock_fits (lawful before.law) (may before.law) (terms_in before) before.words before.history old.whole.world.view p act (ground_safe shows) caller (view_next old.whole.world shows))));
+          };
         }
 
-    module _ (after : Simulation) (machines : List (Option Machine)) (found : ℕ) (same : found ≡ word_found (terms_of before.opening count clock) before.words (access_of act))
-        (opening : after.opening ≡ before.opening) (settings : after.settings ≡ before.settings) (took : Took before.machines after.machines (p - 1) found)
-        (shown : (w : World) → Shows before w → (let ground = world_of (terms_in before) before.words before.history w.view in
-        step ground p ≡ world_of (terms_in before) after.words after.history (step ground p).view)) where
-      own : took.was.attempt ≡ attempt_in before p
-      own = sym (ap (λ (machine : Option Machine). latest before.settings p machine) took.changes.there)
-
-      own_after : (w : World) → Shows before w → attempt_of (step w p) p ≡ took.now.attempt
+    module _ {after : Simulation L} (terms : HasSameTerms before after) (found : ℕ) (same : found ≡ word_found table before.words (access_of act))
+        (given : IsGivenWord before.machines after.machines (p - 1) found)
+        (shown : (w : World) → Shows lawful may before w → ShowsSafe (lawful before.law) (may before.law) table after.words after.history (step (world_of table before.words before.history w.view) p)) where
+      own_after : (w : World) → Shows lawful may before w → attempt_of (step w p) p ≡ given.now.attempt
       own_after w shows =
-          let ground = world_of (terms_in before) before.words before.history w.view in
-          let w_next : next (w.view p).attempt ≡ Some act = view_next w shows in
-          let own_view : (w.view p).attempt ≡ took.was.attempt = shows.attempts p caller ∙ sym own in
+          let own_view : (w.view p).attempt ≡ given.was.attempt = shows.attempts p caller ∙ sym (was_own given.changes) in
           ap (λ (v : World). attempt_of (step v p) p) shows.words
-          ∙ own_step (terms_in before) before.words before.history w.view p act (ground_safe before w shows old.size) caller w_next
+          ∙ own_step (lawful before.law) (may before.law) (terms_in before) before.words before.history w.view p act (ground_safe shows) caller (view_next w shows)
           ∙ ap (λ (t : Attempt). after_word t (word_found (terms_in before) before.words (access_of act))) own_view
-          ∙ ap (λ (word : ℕ). after_word took.was.attempt word) (sym (same ∙ ap (λ (terms : Terms). word_found terms before.words (access_of act)) terms_is))
-          ∙ sym took.attempt
+          ∙ ap (λ (word : ℕ). after_word given.was.attempt word) (sym (same ∙ ap (λ (terms : Terms). word_found terms before.words (access_of act)) table_is))
+          ∙ sym given.attempt
 
-      words_after : (w : World) → Shows before w → step w p ≡ world_of (terms_in before) after.words after.history (step w p).view
-      words_after w shows =
-          subst (λ (v : World). step v p ≡ world_of (terms_in before) after.words after.history (step v p).view) (sym shows.words) (shown w shows)
+      -- the world after the step, on the simulation's own terms
+      then_shown : (w : World) → Shows lawful may before w → ShowsSafe (lawful before.law) (may before.law) (terms_in before) after.words after.history (step w p)
+      then_shown w shows =
+          subst (λ (v : World). ShowsSafe (lawful before.law) (may before.law) (terms_in before) after.words after.history (step v p)) (sym shows.words)
+          (subst (λ (terms : Terms). ShowsSafe (lawful before.law) (may before.law) terms after.words after.history (step (world_of terms before.words before.history w.view) p)) table_is (shown w shows))
 
-      may_step : (w : World) → Shows before w → MayHappen (terms_in before) w (Steps p)
+      may_step : (w : World) → Shows lawful may before w → MayHappen (terms_in before) w (Steps p)
       unfolding MayHappen
       may_step w shows = caller
 
-      pub steps : Happens before (Steps p) after
+      flat : IsFlat given.now.attempt
+      flat = rw (given.attempt, was_own given.changes) (flat_after (attempt_in before p) found (old.whole.flat p caller))
+
+      pub steps : Follows lawful may count clock before (Steps p) after
       unfolding happened
-      steps = happens before after p (Some took.was) took.now caller opening settings took.changes.within took.changes.others (Steps p) refl may_step own_after words_after
+      steps = seats.follows caller (reseats terms given.changes) lawful may (Steps p) refl may_step own_after (λ w shows. (then_shown w shows).shows) (λ w shows. (then_shown w shows).safe)
+          count clock old flat
 
-      flat : IsFlat took.now.attempt
-      flat = rw (took.attempt, own) (flat_after (attempt_in before p) found (old.flat p caller))
+      pub advances : Advances lawful may p before (Steps p) after
+      advances = record {
+        happens = steps.happens;
+        same = same_of terms given.changes;
+        falls = took_falls old.whole p caller after.machines found given;
+      }
 
-      pub stands_on : Stands count clock after
-      stands_on = stands before after p (Some took.was) took.now caller opening settings took.changes.within took.changes.others count clock old flat (Steps p) steps
+  -- What an access makes of a simulation, by what the table makes of it.
+  module _ (access : Access) (makes : Makes (attempt_in before p) access) where
+    pub access_of_table : IsOfTable table (word_of access)
+    access_of_table = subst (λ (each : Access). IsOfTable table (word_of each)) makes.made (act_of_table makes.act makes.next)
+
+    pub access_given : (found : ℕ) → found ≡ word_found table before.words access → MayBeGiven before.machines (p - 1) found
+    access_given found same = may_be_given makes.act makes.next found (rw makes.made same)
+
+    module _ {after : Simulation L} (terms : HasSameTerms before after) (found : ℕ) (same : found ≡ word_found table before.words access)
+        (given : IsGivenWord before.machines after.machines (p - 1) found) (history : after.history ≡ before.history)
+        (shown : (history : List Entry) (view : ℕ → View) → AreAttempts (shown_by tells) count before.machines view
+        → Safe (lawful before.law) (may before.law) table (world_of table before.words history view)
+        → ShowsAccess (lawful before.law) (may before.law) table before.words after.words history view p access) where
+      shown_then : (w : World) → Shows lawful may before w → ShowsSafe (lawful before.law) (may before.law) table after.words after.history (step (world_of table before.words before.history w.view) p)
+      shown_then w shows = rw history
+          ((shown before.history w.view (attempts_of w shows) (safe_of w shows)).step (ap packed (view_next makes.act makes.next w shows) ∙ ap Some makes.made))
+
+      pub access_follows : Follows lawful may count clock before (Steps p) after
+      access_follows = steps makes.act makes.next terms found (rw makes.made same) given shown_then
+
+      pub access_advances : Advances lawful may p before (Steps p) after
+      access_advances = advances makes.act makes.next terms found (rw makes.made same) given shown_then
+
+  -- What the exchange of the clock makes of a simulation, by what the table makes of it.
+  module _ (taken : ℕ) (takes : next (attempt_in before p) ≡ Some (ExchangeClock taken)) where
+    pub exchange_given : (found : ℕ) → found ≡ get_or before.words 0 0 → MayBeGiven before.machines (p - 1) found
+    exchange_given found same = may_be_given (ExchangeClock taken) takes found (same ∙ sym (clock_found table before.words taken))
+
+    module _ {after : Simulation L} (terms : HasSameTerms before after) (found : ℕ) (same : found ≡ get_or before.words 0 0)
+        (given : IsGivenWord before.machines after.machines (p - 1) found) (owed : MeetsOwedNext lawful may before p)
+        (notes writes : List Note) (noted : notes ≡ (attempt_in before p).notes) (written : writes_in writes ≡ (attempt_in before p).now.writes)
+        (shown : (view : ℕ → View) → AreAttempts (shown_by tells) count before.machines view
+        → MayDecide (lawful before.law) (may before.law) table before.words before.history view p taken notes writes
+        → ShowsSafe (lawful before.law) (may before.law) table after.words after.history (step (world_of table before.words before.history view) p)) where
+      meets : (w : World) → Shows lawful may before w → MeetsOwed (lawful before.law) (may before.law) table (world_of table before.words before.history w.view) (Steps p)
+      unfolding MeetsOwed world_of
+      meets w shows = rw (shows.attempts p caller) owed
+
+      shown_won : (w : World) → Shows lawful may before w → ShowsSafe (lawful before.law) (may before.law) table after.words after.history (step (world_of table before.words before.history w.view) p)
+      shown_won w shows =
+          shown w.view (attempts_of w shows) (record {
+            safe = safe_of w shows;
+            comes = view_next (ExchangeClock taken) takes w shows;
+            noted = noted ∙ ap (λ (t : Attempt). t.notes) (sym (shows.attempts p caller));
+            written = written ∙ ap (λ (t : Attempt). t.now.writes) (sym (shows.attempts p caller));
+            owes = meets w shows;
+          })
+
+      pub exchange_follows : Follows lawful may count clock before (Steps p) after
+      exchange_follows = steps (ExchangeClock taken) takes terms found (same ∙ sym (clock_found table before.words taken)) given shown_won
+
+      pub exchange_advances : Advances lawful may p before (Steps p) after
+      exchange_advances = advances (ExchangeClock taken) takes terms found (same ∙ sym (clock_found table before.words taken)) given shown_won
 
   -- ---- local moves
 
   module _ (this : Move) (able : May (cells_in (terms_in before)) (terms_in before).limit (attempt_in before p) this)
-      (after : Simulation) (opening : after.opening ≡ before.opening) (settings : after.settings ≡ before.settings)
-      (words : after.words ≡ before.words) (history : after.history ≡ before.history)
-      (now : Machine) (machines : after.machines ≡ set before.machines (p - 1) (Some now)) (is : now.attempt ≡ moved (attempt_in before p) this) where
-    may_move : (w : World) → Shows before w → MayHappen (terms_in before) w (Moves p this)
+      {after : Simulation L} {now : Machine} (seat : Reseats p before after now)
+      (words : after.words ≡ before.words) (history : after.history ≡ before.history) (is : now.attempt ≡ moved (attempt_in before p) this) where
+    may_move : (w : World) → Shows lawful may before w → MayHappen (terms_in before) w (Moves p this)
     unfolding MayHappen
     may_move w shows = (caller, subst (λ (t : Attempt). May (cells_in (terms_in before)) (terms_in before).limit t this) (sym (shows.attempts p caller)) able)
 
-    own_moved : (w : World) → Shows before w → attempt_of (happened w (Moves p this)) p ≡ now.attempt
+    own_moved : (w : World) → Shows lawful may before w → attempt_of (happened w (Moves p this)) p ≡ now.attempt
     unfolding happened
     own_moved w shows =
         attempt_here w p (record (w.view p) { attempt = moved (attempt_of w p) this })
         ∙ ap (λ (t : Attempt). moved t this) (shows.attempts p caller) ∙ sym is
 
-    words_moved : (w : World) → Shows before w → happened w (Moves p this) ≡ world_of (terms_in before) after.words after.history (happened w (Moves p this)).view
+    words_moved : (w : World) → Shows lawful may before w → happened w (Moves p this) ≡ world_of (terms_in before) after.words after.history (happened w (Moves p this)).view
     unfolding happened world_of
     words_moved w shows = rw (words, history) (ap (λ (v : World). record v { view = (happened w (Moves p this)).view }) shows.words)
 
-    pub moves : Happens before (Moves p this) after
-    moves = happens before after p None now caller opening settings within machines (Moves p this) refl may_move own_moved words_moved
+    safe_moved : (w : World) → Shows lawful may before w → Safe (lawful before.law) (may before.law) (terms_in before) (happened w (Moves p this))
+    unfolding MeetsOwed
+    safe_moved w shows = event_safe (lawful before.law) (may before.law) (terms_in before) w (Moves p this) (may_move w shows) tt shows.safe
 
-    pub stands_moved : IsFlat (moved (attempt_in before p) this) → Stands count clock after
-    stands_moved flat = stands before after p None now caller opening settings within machines count clock old (subst (λ (t : Attempt). IsFlat t) (sym is) flat) (Moves p this) moves
+    pub moves : IsFlat (moved (attempt_in before p) this) → Follows lawful may count clock before (Moves p this) after
+    moves flat = seats.follows caller seat lawful may (Moves p this) refl may_move own_moved words_moved safe_moved
+        count clock old (subst (λ (t : Attempt). IsFlat t) (sym is) flat)
 
   -- ---- what begins
 
-  module _ (over : ((attempt_in before p).stage ≡ Ended) × ((attempt_in before p).due ≡ [])) where
+  module _ (over : IsOver (attempt_in before p)) where
     own_number : (attempt_in before p).own ≡ p
-    own_number = subst (λ (t : Attempt). t.own ≡ p) (old.shows.attempts p caller) (old.shows.safe.attempts p caller).own
+    own_number = subst (λ (t : Attempt). t.own ≡ p) (old.whole.shows.attempts p caller) (old.whole.shows.safe.attempts p caller).own
 
     pub serial_is : (attempt_in before p).serial ≡ (status_of (get_or before.words p 0)).serial
     unfolding world_of SerialAt
     serial_is =
-        let t = (view p).attempt in
-        let same : t ≡ attempt_in before p = old.shows.attempts p caller in
-        let ended : t.stage ≡ Ended = rw same over.0 in
-        let told : SerialAt Ended t.serial (status_in (terms_in before) before.words p).serial = rw ended at (safe.statuses p caller).serial in
+        let shows = old.whole.shows in
+        let t = (old.whole.world.view p).attempt in
+        let same : t ≡ attempt_in before p = shows.attempts p caller in
+        let ended : t.stage ≡ Ended = rw same over.ended in
+        let told : SerialAt Ended t.serial (status_in (terms_in before) before.words p).serial = rw ended at ((ground_safe shows).statuses p caller).serial in
         ap (λ (u : Attempt). u.serial) (sym same) ∙ told ∙ ap (λ (status : TxnStatus). status.serial) (status_own (terms_in before) before.words p caller)
 
     module _ (serial : ℕ) (number : serial ≡ (status_of (get_or before.words p 0)).serial) (fewer : serial < before.settings.attempts) where
-      pub able_to_begin : May (cells_in (terms_in before)) (terms_in before).limit (attempt_in before p) (Begins before.settings)
-      unfolding May
-      able_to_begin = (over.0, over.1, refl, (let same : (attempt_in before p).serial ≡ serial = serial_is ∙ sym number in omega (arith, fewer, same)), old.attempts)
+      same_serial : (attempt_in before p).serial ≡ serial
+      same_serial = serial_is ∙ sym number
 
-      pub begins_so : moved (attempt_in before p) (Begins before.settings) ≡ record (no_attempt p before.settings) { serial = serial + 1; stage = Announce }
+      able_to_begin : May (cells_in (terms_in before)) (terms_in before).limit (attempt_in before p) (Begins before.settings)
+      unfolding May
+      able_to_begin = (over.ended, over.nothing_due, refl, (let same = same_serial in omega (arith, fewer, same)), old.whole.attempts)
+
+      begins_so : moved (attempt_in before p) (Begins before.settings) ≡ record (no_attempt p before.settings) { serial = serial + 1; stage = Announce }
       unfolding moved
       begins_so =
-          let next : suc (attempt_in before p).serial ≡ serial + 1 = (let same : (attempt_in before p).serial ≡ serial = serial_is ∙ sym number in omega (arith, same)) in
+          let next : suc (attempt_in before p).serial ≡ serial + 1 = (let same = same_serial in omega (arith, same)) in
           λ i. record (no_attempt (own_number i) before.settings) { serial = next i; stage = Announce }
 
-      pub flat_begins : IsFlat (moved (attempt_in before p) (Begins before.settings))
+      flat_begins : IsFlat (moved (attempt_in before p) (Begins before.settings))
       unfolding moved
       flat_begins = record { turn = refl; hooks = refl; laters = refl; saved = refl; due = omega arith }
+
+      pub begins : {after : Simulation L} {now : Machine} → Reseats p before after now → after.words ≡ before.words → after.history ≡ before.history
+          → now.attempt ≡ record (no_attempt p before.settings) { serial = serial + 1; stage = Announce } → Follows lawful may count clock before (Moves p (Begins before.settings)) after
+      begins seat words history is = moves (Begins before.settings) able_to_begin seat words history (is ∙ sym begins_so) flat_begins
 
   -- ---- what is due
 
   module _ (due : 0 < length (attempt_in before p).due) where
     due_seat : (machine : Option Machine) → machine_at before p ≡ machine → HasDue before.machines (p - 1)
     due_seat None none = let here : 0 < length (latest before.settings p None).due = rw none at due in absurd (omega (arith, here))
-    due_seat (Some machine) some = record { machine = machine; within = within; there = some; due = rw some at due }
+    due_seat (Some machine) some = record { machine = machine; stands = record { within = within; there = some }; due = rw some at due }
 
     pub has_due : HasDue before.machines (p - 1)
     has_due = due_seat (machine_at before p) refl
 
-    module _ (after : Simulation) (opening : after.opening ≡ before.opening) (settings : after.settings ≡ before.settings)
-        (words : after.words ≡ before.words) (history : after.history ≡ before.history) (did : Did before.machines after.machines (p - 1)) where
-      own_did : did.was.attempt ≡ attempt_in before p
-      own_did = sym (ap (λ (machine : Option Machine). latest before.settings p machine) did.changes.there)
-
-      does_so : did.now.attempt ≡ moved (attempt_in before p) Does
-      does_so = did.attempt ∙ ap (λ (t : Attempt). moved t Does) own_did
+    module _ {after : Simulation L} (terms : HasSameTerms before after) (words : after.words ≡ before.words) (history : after.history ≡ before.history)
+        (done : IsDone before.machines after.machines (p - 1)) where
+      does_so : done.now.attempt ≡ moved (attempt_in before p) Does
+      does_so = done.attempt ∙ ap (λ (t : Attempt). moved t Does) (was_own done.changes)
 
       able : May (cells_in (terms_in before)) (terms_in before).limit (attempt_in before p) Does
       unfolding May
       able = due
 
-      pub does : Happens before (Moves p Does) after
-      does = moves Does able after opening settings words history did.now did.changes.others does_so
+      pub does : Follows lawful may count clock before (Moves p Does) after
+      does = moves Does able (reseats terms done.changes) words history does_so (flat_does (attempt_in before p) (old.whole.flat p caller))
 
-      pub stands_done : Stands count clock after
-      stands_done = stands_moved Does able after opening settings words history did.now did.changes.others does_so (flat_does (attempt_in before p) (old.flat p caller))
+      pub done_advances : Advances lawful may p before (Moves p Does) after
+      done_advances = record { happens = does.happens; same = same_of terms done.changes; falls = did_falls old.whole p caller after.machines due done }

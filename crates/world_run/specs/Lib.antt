@@ -1,2 +1,3 @@
 pub mod Simulation
+pub mod Places
 pub mod Run

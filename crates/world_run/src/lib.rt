@@ -1,10 +1,10 @@
-//! Attempts that run on the plain world, step by step, in whatever order their callers are named, and what
-//! operations find in a safe world.
+//! Attempts that run on the plain world, step by step, in whatever order their callers are named.
 #![tactic(auto)]
 
-mod simulation;
+mod causes;
 pub mod laws;
 mod run;
+mod simulation;
 
 pub use simulation::Simulation;
 pub use stm_core::{Next, Reply};

@@ -1,39 +1,52 @@
 //! Whole attempts of one caller, nobody else moving.
-ghost use Rattle.std.specs.Prelude.{◌≡◌, ◌⊎◌, ◌++◌, ◌∷◌, [], IfNone, IfOk, IfSome, IsSome, IsTrue, OnErr, OnOk, length};
+ghost use Rattle.std.specs.Prelude.{◌≡◌, ◌⊎◌, ◌++◌, ◌∷◌, [], List, IfNone, IfOk, IfSome, IsSome, IsTrue, OnErr, OnOk, length};
 ghost use Rattle.std.specs.List.{All};
 ghost use Rattle.stm_core.specs.Machine.{next_of};
 ghost use Rattle.stm_model.specs.Attempt.{Ended};
 ghost use Rattle.stm_model.specs.Moves.{AwaitsAsk};
 ghost use Rattle.stm_model.specs.World.{IsCaller};
+ghost use Rattle.stm_model.specs.declared.access.Ask.{Ask};
 ghost use Rattle.stm_model.specs.declared.access.Ask.TheVariants.{Finish};
-ghost use Rattle.world_run.specs.Simulation.{IsTaken, IsToDecide, MayBegin, Stands, attempt_in, machine_at, replies, terms_in};
-ghost use Rattle.world_run.specs.Run.{GoesAlong, GoesOn, HasEnded, IsOpaque, IsTrueOf, Leaves, Runs, told_ending};
+ghost use Rattle.world_run.specs.Simulation.{HasSameTerms, Invariant, IsAlwaysTaken, IsOver, IsToDecide, MayBegin, attempt_in, machine_at, replies, terms_in};
+ghost use Rattle.world_run.specs.Run.{AsksMeetOwed, GoesAlong, GoesOn, HasEnded, IsClosing, MeetsOwedBy, Runs, told_ending};
 
 use crate::simulation::Simulation;
 use stm_core::{Next, Reply};
-use stm_model::{Ask, Ending, Memory};
+use stm_model::{Ask, Ending, Law, Memory};
 
-impl Simulation {
+impl<L: Law + Drop> Simulation<L> {
     /// Makes a caller's next attempt as a whole, nobody else moving, and gives its ending. It begins, is asked
     /// for each of these in turn and then to finish, unless it is over before, and after each ask it goes on
-    /// until it replies. Where no attempt may begin there is none, and nothing changes. Memory is wanting
-    /// only for the exchange of the clock; the attempt stands before it then, and may go on.
+    /// until it replies. What is written has to meet what is owed, whatever is read. Where no attempt may
+    /// begin there is none, and nothing changes. Memory is wanting only for the exchange of the clock; the
+    /// attempt stands before it then, and may go on.
     pub fn run_attempt(&mut self, caller: u16, asks: &[Ask]) -> Result<Option<Ending>, Memory>
         requires caller { IsCaller (terms_in self.old) caller }
-        requires asks { All (IsTaken (length self.old.opening)) asks.now }
-        ensures runs { Runs self.old caller (asks.now ++ Finish ∷ []) self.new }
-        ensures ends { IfOk result (λ made. IfSome made (HasEnded self.old caller self.new)) }
-        ensures history { IfOk result (λ made. IfSome made (λ ending. Leaves self.old.history (attempt_in self.new caller) ending self.new.history)) }
-        ensures tells { IfOk result (λ made. IfSome made (IsTrueOf (attempt_in self.new caller))) }
-        ensures opaque { IfOk result (λ made. IfSome made (λ ending. IsOpaque self.new caller)) }
+        requires asks { All (IsAlwaysTaken (length self.old.opening)) asks.now }
+        requires owed { AsksMeetOwed (L.lawful self.old.law) (L.may self.old.law) (length self.old.opening) [] (asks.now ++ Finish ∷ []) }
+        ensures runs { Runs L.lawful L.may self.old caller (asks.now ++ Finish ∷ []) self.new }
+        ensures ends { IfOk result (λ made. IfSome made (HasEnded L.lawful L.may self.old caller self.new)) }
         ensures begins { MayBegin self.old caller → IfOk result IsSome }
-        ensures may { IfOk result (λ made. IfSome made (λ ending. MayBegin self.old caller)) }
         ensures stays { IfOk result (λ made. IfNone made (self.new ≡ self.old)) }
         ensures wants { OnErr result (IsToDecide (next_of (attempt_in self.new caller))) }
     {
         if !self.begin(caller) {
             return Ok(None);
         }
+        self.run_body(caller, asks)
+    }
+
+    // A caller's attempt goes on, is asked for each of these and then to finish, and goes on until it is over.
+    fn run_body(&mut self, caller: u16, asks: &[Ask]) -> Result<Option<Ending>, Memory>
+        requires caller { IsCaller (terms_in self.old) caller }
+        requires asks { All (IsAlwaysTaken (length self.old.opening)) asks.now }
+        requires owed { MeetsOwedBy L.lawful L.may self.old caller (asks.now ++ Finish ∷ []) }
+        ensures along { GoesAlong L.lawful L.may self.old caller (asks.now ++ Finish ∷ []) self.new }
+        ensures over { OnOk result (IsOver (attempt_in self.new caller)) }
+        ensures ends { IfOk result (λ made. made ≡ (attempt_in self.new caller).ending) }
+        ensures made { IsSome (machine_at self.old caller) → IfOk result IsSome }
+        ensures wants { OnErr result (IsToDecide (next_of (attempt_in self.new caller))) }
+    {
         self.settle(caller)?;
         self.ask_all(caller, asks)?;
         self.finish(caller)?;
@@ -44,15 +57,16 @@ impl Simulation {
     fn replies(&self, caller: u16) -> bool
         requires { IsCaller (terms_in self.now) caller }
         ensures told { result ≡ replies (next_of (attempt_in self.now caller)) }
-        ensures stands { Stands self.now.settings.callers self.now.settings.clock self.now }
+        ensures invariant { Invariant L.lawful L.may self.now }
     {
         only_replies(self.next(caller))
     }
 
     // A caller's attempt goes on by itself until it replies.
     fn settle(&mut self, caller: u16) -> Result<(), Memory>
-        requires { IsCaller (terms_in self.old) caller }
-        ensures goes { GoesOn self.old caller [] self.new }
+        requires caller { IsCaller (terms_in self.old) caller }
+        requires owed { (asks : List Ask) × MeetsOwedBy L.lawful L.may self.old caller asks }
+        ensures goes { GoesOn L.lawful L.may self.old caller [] self.new }
         ensures replies { OnOk result (IsTrue (replies (next_of (attempt_in self.new caller)))) }
         ensures wants { OnErr result (IsToDecide (next_of (attempt_in self.new caller))) }
     {
@@ -65,10 +79,11 @@ impl Simulation {
     // A caller's attempt is asked for each of these, and goes on after it, unless it is over before.
     fn ask_all(&mut self, caller: u16, asks: &[Ask]) -> Result<(), Memory>
         requires caller { IsCaller (terms_in self.old) caller }
-        requires asks { All (IsTaken (length self.old.opening)) asks.now }
+        requires asks { All (IsAlwaysTaken (length self.old.opening)) asks.now }
         requires replies { IsTrue (replies (next_of (attempt_in self.old caller))) }
-        ensures along { GoesAlong self.old caller asks.now self.new }
-        ensures goes { OnOk result (GoesOn self.old caller asks.now self.new ⊎ ((attempt_in self.new caller).stage ≡ Ended)) }
+        requires owed { MeetsOwedBy L.lawful L.may self.old caller (asks.now ++ Finish ∷ []) }
+        ensures along { GoesAlong L.lawful L.may self.old caller asks.now self.new }
+        ensures goes { OnOk result (GoesOn L.lawful L.may self.old caller asks.now self.new ⊎ ((attempt_in self.new caller).stage ≡ Ended)) }
         ensures replies { OnOk result (IsTrue (replies (next_of (attempt_in self.new caller)))) }
         ensures wants { OnErr result (IsToDecide (next_of (attempt_in self.new caller))) }
     {
@@ -82,25 +97,37 @@ impl Simulation {
         Ok(())
     }
 
+    // A caller's attempt is asked to finish, unless it is over.
+    fn ask_to_finish(&mut self, caller: u16)
+        requires caller { IsCaller (terms_in self.old) caller }
+        requires replies { IsTrue (replies (next_of (attempt_in self.old caller))) }
+        ensures goes { GoesOn L.lawful L.may self.old caller [] self.new ⊎ (AwaitsAsk (attempt_in self.old caller) × GoesOn L.lawful L.may self.old caller (Finish ∷ []) self.new) }
+        ensures closing { IsClosing (attempt_in self.new caller).stage }
+        ensures terms { HasSameTerms self.old self.new }
+    {
+        if !self.waits(caller) {
+            return;
+        }
+        self.ask(caller, Ask::Finish);
+    }
+
     // A caller's attempt is asked to finish, unless it is over, and goes on until it is.
     fn finish(&mut self, caller: u16) -> Result<(), Memory>
         requires caller { IsCaller (terms_in self.old) caller }
         requires replies { IsTrue (replies (next_of (attempt_in self.old caller))) }
-        ensures goes { GoesOn self.old caller [] self.new ⊎ (AwaitsAsk (attempt_in self.old caller) × GoesOn self.old caller (Finish ∷ []) self.new) }
-        ensures over { OnOk result (((attempt_in self.new caller).stage ≡ Ended) × ((attempt_in self.new caller).due ≡ [])) }
+        requires owed { MeetsOwedBy L.lawful L.may self.old caller (Finish ∷ []) }
+        ensures goes { GoesOn L.lawful L.may self.old caller [] self.new ⊎ (AwaitsAsk (attempt_in self.old caller) × GoesOn L.lawful L.may self.old caller (Finish ∷ []) self.new) }
+        ensures over { OnOk result (IsOver (attempt_in self.new caller)) }
         ensures wants { OnErr result (IsToDecide (next_of (attempt_in self.new caller))) }
     {
-        if self.waits(caller) {
-            self.ask(caller, Ask::Finish);
-        }
+        self.ask_to_finish(caller);
         self.settle(caller)
     }
 
     // How a caller's attempt ended.
     fn ending(&self, caller: u16) -> Option<Ending>
         requires caller { IsCaller (terms_in self.now) caller }
-        requires over { (attempt_in self.now caller).stage ≡ Ended }
-        requires nothing_due { (attempt_in self.now caller).due ≡ [] }
+        requires over { IsOver (attempt_in self.now caller) }
         ensures ending { result ≡ (attempt_in self.now caller).ending }
         ensures told { IsSome (machine_at self.now caller) → IsSome result }
     {

@@ -1,55 +1,66 @@
 //! A world that runs with its callers' attempts.
-ghost use Rattle.std.specs.Prelude.{◌≡◌, ◌<◌, ◌≤◌, ◌-◌, ◌^◌, ◌⊎◌, [], ℕ, IfOk, IsFalse, IsSome, IsTrue, OnErr, OnOk, Some, length, slice_index, slice_index_or, None};
+ghost use Rattle.std.specs.Prelude.{◌≡◌, ◌<◌, ◌≤◌, ◌-◌, ◌^◌, ◌⊎◌, [], ℕ, IfNone, IfOk, IfSome, IsFalse, IsSome, IsTrue, OnErr, OnOk, Some, length, slice_index, slice_index_or, None};
 ghost use Rattle.meta_word.specs.declared.meta.TheConstants.{MAX_OWNER};
 ghost use Rattle.meta_word.specs.declared.status.TheConstants.{MAX_SERIAL};
 ghost use Rattle.meta_word.specs.Status.{status_of};
 ghost use Rattle.opacity.specs.Plain.{history_of};
-ghost use Rattle.stm_core.specs.Machine.{SettingsFit, next_of};
+ghost use Rattle.opacity.specs.Words.{IsOfTable};
+ghost use Rattle.stm_core.specs.Machine.{Decides, Makes, Promises, SettingsFit, next_of};
 ghost use Rattle.stm_core.specs.declared.next.Next.TheVariants as coming;
+ghost use Rattle.stm_core.specs.declared.next.Reply.TheVariants as reply;
 ghost use Rattle.stm_model.specs.Attempt.{Ended};
 ghost use Rattle.stm_model.specs.Moves.{AwaitsAsk, Begins, Does, OutOfMemory, Takes};
-ghost use Rattle.stm_model.specs.World.{IsCaller, Moves, Steps, opened};
-ghost use Rattle.world_run.specs.Simulation.{Asked, Did, Happens, HasDue, IsSameOf, IsTaken, IsToDecide, MayBegin, MayTake, MayTakeAsk, Shows, Stands, Took, attempt_in, left_of, machine_at, replies, tells_end, tells_wait, terms_in, turn_of};
+ghost use Rattle.stm_model.specs.World.{IsCaller, Moves, Steps, Terms, opened, place_of};
+ghost use Rattle.world_run.specs.Simulation.{Advances, HasSameTerms, Happens, Invariant, IsAskable, IsOver, IsSameOf, IsToDecide, MayBegin, MeetsOwedNext, Shows, TellsTruth, attempt_in, left_of, machine_at, replies, tells_end, tells_wait, terms_in, turn_of};
+ghost use Rattle.world_run.specs.Places.{HasDue, IsAsked, IsDone, IsGivenWord, MayBeAsked, MayBeGiven, TakesAsk};
 
+use crate::causes::{is_of_body, is_same};
 use meta_word::unpack_status;
 use opacity::World;
 use std::alloc::Global;
 use std::marker::Model;
 use stm_core::{Attempt, Next, Reply, Written};
-use stm_model::{Access, Ask, Cause, Free, Memory, Settings, Word};
+use stm_model::{Access, Ask, Cause, Law, Memory, Settings, Word};
 
 /// The plain world with an attempt of each caller that has begun one. Whatever order its callers are named
 /// in, it shows a safe world.
 #[derive(Drop)]
-pub struct Simulation {
-    world: World<Free>,
+pub struct Simulation<L: Law + Drop> {
+    world: World<L>,
     machines: Vec<Option<Attempt>>,
     settings: Settings,
     alloc: Global,
 }
 
-impl Model for Simulation {
-    ghost use Rattle.world_run.specs.Simulation.{Simulation, Stands, simulation_of};
+impl<L: Law + Drop> Model for Simulation<L> {
+    ghost use Rattle.world_run.specs.Simulation.{InvariantOn, Simulation, simulation_of};
 
-    ghost Value = { Simulation };
+    ghost Value = { Simulation L };
 
-    ghost view = { λ c. simulation_of c.world.opening.items c.world.words.items c.world.history.items c.settings c.machines.items };
+    ghost view = { λ c. simulation_of c.world c.settings c.machines.items };
 
-    ghost invariant = { λ c. Stands c.world.callers c.world.limit (simulation_of c.world.opening.items c.world.words.items c.world.history.items c.settings c.machines.items) };
+    ghost invariant = { λ c. InvariantOn L.lawful L.may c.world.callers c.world.limit (simulation_of c.world c.settings c.machines.items) };
 }
 
-impl Simulation {
-    /// The simulation of callers without an attempt, over this heap.
-    pub fn new(alloc: Global, settings: Settings, opening: &[u64]) -> Result<Simulation, Memory>
+impl<L: Law + Drop> Simulation<L> {
+    /// The simulation of callers without an attempt, over this lawful heap.
+    pub fn new(
+        alloc: Global,
+        law: L,
+        settings: Settings,
+        opening: &[u64],
+    ) -> Result<Simulation<L>, Memory>
         requires size { length opening.now < 2 ^ 32 }
         requires callers { settings.callers ≤ MAX_OWNER }
         requires attempts { settings.attempts ≤ MAX_SERIAL }
         requires settings { SettingsFit settings }
+        requires lawful { L.lawful law opening.now }
+        ensures law { IfOk result (λ simulation. simulation.law ≡ law) }
         ensures opening { IfOk result (λ simulation. simulation.opening ≡ opening.now) }
         ensures settings { IfOk result (λ simulation. simulation.settings ≡ settings) }
-        ensures opens { IfOk result (λ simulation. Shows simulation (opened (terms_in simulation) settings)) }
+        ensures opens { IfOk result (λ simulation. Shows L.lawful L.may simulation (opened (terms_in simulation) settings)) }
     {
-        let world = World::new(alloc, Free, settings.callers, settings.clock, opening)?;
+        let world = World::new(alloc, law, settings.callers, settings.clock, opening)?;
         let machines = nobody(alloc, settings.callers)?;
         Ok(Simulation {
             world,
@@ -64,7 +75,10 @@ impl Simulation {
         requires { IsCaller (terms_in self.now) caller }
         ensures next { result ≡ next_of (attempt_in self.now caller) }
         ensures begun { IsSome (machine_at self.now caller) → IsSome result }
-        ensures stands { Stands self.now.settings.callers self.now.settings.clock self.now }
+        ensures none { IfNone result (IsOver (attempt_in self.now caller)) }
+        ensures promises { IfSome result (Promises (attempt_in self.now caller)) }
+        ensures tells { IfSome result (TellsTruth self.now.history (attempt_in self.now caller)) }
+        ensures invariant { Invariant L.lawful L.may self.now }
     {
         match &self.machines[caller as usize - 1] {
             Some(attempt) => Some(attempt.next()),
@@ -75,8 +89,8 @@ impl Simulation {
     // Whether a caller's latest attempt is over.
     fn rests(&self, caller: u16) -> bool
         requires { IsCaller (terms_in self.now) caller }
-        ensures over { IsTrue result → ((attempt_in self.now caller).stage ≡ Ended) × ((attempt_in self.now caller).due ≡ []) }
-        ensures told { (attempt_in self.now caller).stage ≡ Ended → (attempt_in self.now caller).due ≡ [] → IsTrue result }
+        ensures over { IsTrue result → IsOver (attempt_in self.now caller) }
+        ensures told { IsOver (attempt_in self.now caller) → IsTrue result }
     {
         match self.next(caller) {
             Some(next) => is_over(next),
@@ -97,12 +111,12 @@ impl Simulation {
     /// fewer were made than the settings allow.
     pub fn begin(&mut self, caller: u16) -> bool
         requires caller { IsCaller (terms_in self.old) caller }
-        ensures begins { IsTrue result → Happens self.old (Moves caller (Begins self.old.settings)) self.new }
+        ensures begins { IsTrue result → Happens L.lawful L.may self.old (Moves caller (Begins self.old.settings)) self.new }
         ensures stays { IsFalse result → self.new ≡ self.old }
         ensures may { MayBegin self.old caller → IsTrue result }
         ensures begun { IsTrue result → IsSome (machine_at self.new caller) }
-        ensures stands { IsTrue result → Stands self.old.settings.callers self.old.settings.clock self.old }
-        ensures settings { self.new.settings ≡ self.old.settings }
+        ensures invariant { IsTrue result → Invariant L.lawful L.may self.old }
+        ensures terms { HasSameTerms self.old self.new }
     {
         if !self.rests(caller) {
             return false;
@@ -121,7 +135,7 @@ impl Simulation {
         requires { IsCaller (terms_in self.now) caller }
         ensures waits { IsTrue result → AwaitsAsk (attempt_in self.now caller) }
         ensures told { AwaitsAsk (attempt_in self.now caller) → IsTrue result }
-        ensures stands { Stands self.now.settings.callers self.now.settings.clock self.now }
+        ensures invariant { Invariant L.lawful L.may self.now }
     {
         match self.next(caller) {
             Some(next) => waits(next),
@@ -129,17 +143,30 @@ impl Simulation {
         }
     }
 
-    /// Asks a caller's attempt, and tells whether it could: the attempt waits to be asked, and the ask is one
-    /// that attempts take. The attempt takes it, or refuses it for want of memory.
+    // Whether a caller's attempt waits to be asked, and may take the ask.
+    fn may_ask(&self, caller: u16, ask: Ask) -> bool
+        requires { IsCaller (terms_in self.now) caller }
+        ensures may { IsTrue result → IsAskable (length self.now.opening) (attempt_in self.now caller) ask }
+        ensures told { IsAskable (length self.now.opening) (attempt_in self.now caller) ask → IsTrue result }
+    {
+        match self.next(caller) {
+            Some(next) => waits(next) && takes(next, ask, self.world.opening.len()),
+            None => false,
+        }
+    }
+
+    /// Asks a caller's attempt, and tells whether it was asked: it is exactly where it waits and may take
+    /// such an ask. It takes it then, or refuses it for want of memory.
     pub fn ask(&mut self, caller: u16, ask: Ask) -> bool
         requires caller { IsCaller (terms_in self.old) caller }
-        ensures asked { IsTrue result → Happens self.old (Moves caller (Takes ask)) self.new ⊎ Happens self.old (Moves caller (OutOfMemory ask)) self.new }
+        ensures asked { IsTrue result → Happens L.lawful L.may self.old (Moves caller (Takes ask)) self.new ⊎ Happens L.lawful L.may self.old (Moves caller (OutOfMemory ask)) self.new }
         ensures stays { IsFalse result → self.new ≡ self.old }
-        ensures may { AwaitsAsk (attempt_in self.old caller) → IsTaken (length self.old.opening) ask → IsTrue result }
+        ensures may { IsTrue result → IsAskable (length self.old.opening) (attempt_in self.old caller) ask }
+        ensures told { IsAskable (length self.old.opening) (attempt_in self.old caller) ask → IsTrue result }
         ensures same { IsSameOf caller self.old self.new }
-        ensures settings { self.new.settings ≡ self.old.settings }
+        ensures terms { HasSameTerms self.old self.new }
     {
-        if !self.waits(caller) || !is_taken(ask, self.world.opening.len()) {
+        if !self.may_ask(caller, ask) {
             return false;
         }
         ask_at(&mut self.machines, caller as usize - 1, ask);
@@ -147,15 +174,17 @@ impl Simulation {
     }
 
     /// Makes what a caller's attempt does next: its next access, or the ring that is due. Where it replies,
-    /// nothing happens. Want of memory changes nothing.
+    /// nothing happens. Where it would win the exchange of the clock, its writes have to meet what is owed.
+    /// Want of memory changes nothing.
     pub fn advance(&mut self, caller: u16) -> Result<(), Memory>
         requires caller { IsCaller (terms_in self.old) caller }
-        ensures happens { OnOk result (Happens self.old (turn_of caller (attempt_in self.old caller).due) self.new) }
+        requires owed { MeetsOwedNext L.lawful L.may self.old caller }
+        ensures happens { OnOk result (Happens L.lawful L.may self.old (turn_of caller (attempt_in self.old caller).due) self.new) }
         ensures memory { OnErr result (self.new ≡ self.old) }
         ensures wants { OnErr result (IsToDecide (next_of (attempt_in self.old caller))) }
         ensures same { IsSameOf caller self.old self.new }
         ensures falls { OnOk result (IsFalse (replies (next_of (attempt_in self.old caller))) → left_of self.new caller < left_of self.old caller) }
-        ensures settings { self.new.settings ≡ self.old.settings }
+        ensures terms { HasSameTerms self.old self.new }
     {
         let Some(next) = self.next(caller) else {
             return Ok(());
@@ -172,10 +201,8 @@ impl Simulation {
     // A caller's attempt makes its next access.
     fn step(&mut self, caller: u16, access: Access)
         requires caller { IsCaller (terms_in self.old) caller }
-        requires next { next_of (attempt_in self.old caller) ≡ Some (coming.Access access) }
-        ensures happens { Happens self.old (Steps caller) self.new }
-        ensures same { IsSameOf caller self.old self.new }
-        ensures falls { left_of self.new caller < left_of self.old caller }
+        requires next { Makes (attempt_in self.old caller) access }
+        ensures { Advances L.lawful L.may caller self.old (Steps caller) self.new }
     {
         let found = self.world.act(caller, access, &self.machines);
         take(&mut self.machines, caller as usize - 1, found);
@@ -184,11 +211,10 @@ impl Simulation {
     // A caller's attempt makes the exchange of the clock.
     fn decide(&mut self, caller: u16, old: u64) -> Result<(), Memory>
         requires caller { IsCaller (terms_in self.old) caller }
-        requires next { next_of (attempt_in self.old caller) ≡ Some (coming.Decide old) }
-        ensures happens { OnOk result (Happens self.old (Steps caller) self.new) }
+        requires next { Decides (attempt_in self.old caller) old }
+        requires owed { MeetsOwedNext L.lawful L.may self.old caller }
+        ensures steps { OnOk result (Advances L.lawful L.may caller self.old (Steps caller) self.new) }
         ensures memory { OnErr result (self.new ≡ self.old) }
-        ensures same { OnOk result (IsSameOf caller self.old self.new) }
-        ensures falls { OnOk result (left_of self.new caller < left_of self.old caller) }
     {
         let Some(attempt) = &self.machines[caller as usize - 1] else {
             return Ok(());
@@ -207,22 +233,46 @@ impl Simulation {
     fn did(&mut self, caller: u16)
         requires caller { IsCaller (terms_in self.old) caller }
         requires due { 0 < length (attempt_in self.old caller).due }
-        ensures happens { Happens self.old (Moves caller Does) self.new }
-        ensures same { IsSameOf caller self.old self.new }
-        ensures falls { left_of self.new caller < left_of self.old caller }
+        ensures { Advances L.lawful L.may caller self.old (Moves caller Does) self.new }
     {
         did(&mut self.machines, caller as usize - 1);
     }
 }
 
-impl Simulation {
+impl<L: Law + Drop> Simulation<L> {
     /// The words of the table and what committed.
-    pub fn world(&self) -> &World<Free>
+    pub fn world(&self) -> &World<L>
+        ensures law { result.now.law ≡ self.now.law }
         ensures words { result.now.words.items ≡ self.now.words }
         ensures history { history_of result.now.history.items ≡ self.now.history }
         ensures opening { result.now.opening.items ≡ self.now.opening }
     {
         &self.world
+    }
+
+    /// A word as it stands, if the table has it.
+    pub fn word(&self, word: Word) -> Option<u64>
+        ensures stands { IsOfTable (terms_in self.now) word → result ≡ Some (slice_index self.now.words (place_of self.now.settings.callers word)) }
+        ensures none { IsSome result → IsOfTable (terms_in self.now) word }
+    {
+        if is_of_table(word, self.settings.callers, self.world.opening.len()) {
+            Some(self.world.word(word))
+        } else {
+            None
+        }
+    }
+}
+
+// Whether a table for so many callers and cells has the word.
+#[tactic(auto, unfolding(opacity::specs::Words::IsOfTable))]
+fn is_of_table(word: Word, callers: u16, cells: usize) -> bool
+    ensures has { (terms : Terms) → terms.callers ≡ callers → length terms.opening ≡ cells → IsTrue result → IsOfTable terms word }
+    ensures told { (terms : Terms) → terms.callers ≡ callers → length terms.opening ≡ cells → IsOfTable terms word → IsTrue result }
+{
+    match word {
+        Word::Clock => true,
+        Word::Status(caller) => 0 < caller && caller <= callers,
+        Word::Meta(addr) | Word::Value(addr) => (addr.0 as usize) < cells,
     }
 }
 
@@ -238,10 +288,10 @@ fn nobody(alloc: Global, callers: u16) -> Result<Vec<Option<Attempt>>, Memory>
     Ok(machines)
 }
 
-// The attempt at this place takes the word that its access found.
+// The attempt at this place is given the word that its access found.
 fn take(machines: &mut Vec<Option<Attempt>>, place: usize, found: u64)
-    requires { MayTake machines.old.items place found }
-    ensures { Took machines.old.items machines.new.items place found }
+    requires { MayBeGiven machines.old.items place found }
+    ensures { IsGivenWord machines.old.items machines.new.items place found }
 {
     if let Some(attempt) = &mut machines[place] {
         attempt.take(found);
@@ -251,10 +301,20 @@ fn take(machines: &mut Vec<Option<Attempt>>, place: usize, found: u64)
 // What was due first was done for the attempt at this place.
 fn did(machines: &mut Vec<Option<Attempt>>, place: usize)
     requires { HasDue machines.old.items place }
-    ensures { Did machines.old.items machines.new.items place }
+    ensures { IsDone machines.old.items machines.new.items place }
 {
     if let Some(attempt) = &mut machines[place] {
         attempt.ran();
+    }
+}
+
+// The attempt at this place is asked.
+fn ask_at(machines: &mut Vec<Option<Attempt>>, place: usize, ask: Ask)
+    requires { MayBeAsked machines.old.items place ask }
+    ensures { IsAsked machines.old.items machines.new.items place ask }
+{
+    if let Some(attempt) = &mut machines[place] {
+        attempt.ask(ask);
     }
 }
 
@@ -275,26 +335,27 @@ fn waits(next: Next) -> bool
     )
 }
 
-// Whether attempts take the ask, over so many cells.
-#[tactic(auto, unfolding(crate::specs::Simulation::IsTaken, crate::specs::Simulation::IsBodys))]
-fn is_taken(ask: Ask, cells: usize) -> bool
-    ensures taken { IsTrue result → IsTaken cells ask }
-    ensures told { IsTaken cells ask → IsTrue result }
+// Whether an attempt that waits with this reply may take the ask, over so many cells.
+#[tactic(auto, unfolding(crate::specs::Places::TakesAsk))]
+fn takes(next: Next, ask: Ask, cells: usize) -> bool
+    ensures may { IsTrue result → TakesAsk cells next ask }
+    ensures told { TakesAsk cells next ask → IsTrue result }
 {
     match ask {
-        Ask::Get(addr) => (addr.0 as usize) < cells,
-        Ask::Set(addr, _) => (addr.0 as usize) < cells,
-        Ask::Finish | Ask::Abandon(Cause::Retry | Cause::User { .. } | Cause::Memory) => true,
+        Ask::Get(addr) | Ask::Set(addr, _) => (addr.0 as usize) < cells,
+        Ask::Finish => true,
+        Ask::Abandon(cause) => is_of_body(cause) || was_refused(next, cause),
         _ => false,
     }
 }
 
-// The attempt at this place is asked.
-fn ask_at(machines: &mut Vec<Option<Attempt>>, place: usize, ask: Ask)
-    requires { MayTakeAsk machines.old.items place ask }
-    ensures { Asked machines.old.items machines.new.items place ask }
+// Whether an attempt that waits with this reply was refused with the cause.
+fn was_refused(next: Next, cause: Cause) -> bool
+    ensures may { IsTrue result → next ≡ coming.Reply (reply.Stopped cause) }
+    ensures told { next ≡ coming.Reply (reply.Stopped cause) → IsTrue result }
 {
-    if let Some(attempt) = &mut machines[place] {
-        attempt.ask(ask);
+    match next {
+        Next::Reply(Reply::Stopped(refused)) => is_same(refused, cause),
+        _ => false,
     }
 }

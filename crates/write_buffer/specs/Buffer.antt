@@ -1,4 +1,4 @@
--- What a buffer of writes is to its callers, and what it goes back to at a mark.
+-- What a buffer of writes is to its callers, and what it is rolled back to at a mark.
 use Rattle.std.specs.Prelude.{◌≡◌, ℕ, ◌≤◌, nat_eq, List, [], ◌∷◌, length, take, drop, slice_index_or, slice_set}
 use Rattle.std.specs.List.{IsDistinct}
 use Rattle.std.specs.Map.{keys_of}
@@ -24,12 +24,12 @@ unfoldable pub given_back : List (ℕ × ℕ) → List (ℕ × ℕ) → List (�
 given_back writes [] = writes
 given_back writes (former ∷ replaced) = with_value (given_back writes replaced) former.0 former.1
 
--- The buffer can go back to the mark: it has at least as many writes and replaced values as the mark counts.
+-- The buffer can be rolled back to the mark: it has at least as many writes and replaced values as the mark counts.
 pub record IsMark (buffer : Buffer) (mark : WriteMark) : Type 0 where
   pub entries : mark.entries ≤ length buffer.writes
   pub restores : mark.restores ≤ length buffer.replaced
 
--- what the buffer goes back to at a mark: the writes that were there then, with the values that they had then
+-- what the buffer is rolled back to at a mark: the writes that were there then, with the values that they had then
 unfoldable pub at_mark : Buffer → WriteMark → List (ℕ × ℕ)
 at_mark buffer mark = given_back (take mark.entries buffer.writes) (drop mark.restores buffer.replaced)
 
@@ -38,7 +38,7 @@ pub record IsNoLater (mark other : WriteMark) : Type 0 where
   pub entries : mark.entries ≤ other.entries
   pub restores : mark.restores ≤ other.restores
 
--- The mark stays one, and what the buffer goes back to there stays the same.
+-- The mark stays one, and what the buffer is rolled back to there stays the same.
 pub record Keeps (before after : Buffer) (mark : WriteMark) : Type 0 where
   pub still : IsMark after mark
   pub same : at_mark after mark ≡ at_mark before mark

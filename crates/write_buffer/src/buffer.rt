@@ -1,5 +1,5 @@
-//! A list of writes to distinct cells. It can go back to what it was at a mark, since each value that
-//! is replaced is kept.
+//! A list of writes to distinct cells. It can be rolled back to a mark, since each value that is replaced
+//! is kept.
 ghost use Rattle.std.specs.Prelude.{◌≡◌, ◌≢◌, ◌+◌, ◌<◌, ◌≤◌, ◌^◌, [], ◌∷◌, ◌++◌, length, nat_eq, slice_get, vec_capacity, Some, is_some, IsFalse, IsOk, IsTrue, MatchOption, OnErr, OnOk};
 ghost use Rattle.std.specs.List.{All, HoldsAt};
 ghost use Rattle.std.specs.Map.{lookup};
@@ -97,7 +97,7 @@ impl WriteBuffer {
         self.writes.len()
     }
 
-    /// A mark to go back to, after all marks taken before.
+    /// A mark to roll back to, after all marks taken before.
     pub fn mark(&self) -> WriteMark
         ensures mark { IsMark self.now result }
         ensures writes { at_mark self.now result ≡ self.now.writes }
@@ -110,7 +110,7 @@ impl WriteBuffer {
         }
     }
 
-    /// Goes back to a mark. This mark and those taken before it stay marks, and what is dropped becomes spare.
+    /// Rolls back to a mark. This mark and those taken before it stay marks, and what is dropped becomes spare.
     pub fn undo(&mut self, mark: WriteMark)
         requires { IsMark self.old mark }
         ensures writes { self.new.writes ≡ at_mark self.old mark }

@@ -4,7 +4,7 @@ use Rattle.stm_core.proofs.GoingOn.{asked_goes_on, due_shown}
 use Rattle.stm_core.proofs.Shown.{same_attempt}
 use Rattle.stm_core.specs.Machine.{IsRefused, Machine, accesses_asked}
 use Rattle.stm_core.specs.Running.{left_in, shown}
-use Rattle.stm_model.specs.Moves.{AwaitsAsk, Takes, moved}
+use Rattle.stm_model.specs.Moves.{Takes, moved}
 use Rattle.stm_core.proofs.attempt.Attempt.ask.Goals as goal
 
 -- which attempt was asked

@@ -1,4 +1,4 @@
-use Rattle.std.proofs.Common.{◌≡◌, subst}
+use Rattle.std.proofs.Common.{subst}
 use Rattle.stm_core.proofs.Allowing.{promises}
 use Rattle.stm_core.proofs.Shown.{finishes}
 use Rattle.stm_core.specs.Machine.{Machine, Promises}

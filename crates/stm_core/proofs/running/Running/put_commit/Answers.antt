@@ -1,5 +1,5 @@
 use Rattle.std.proofs.Common.{refl, rules}
-use Rattle.stm_core.proofs.Ends.{ends, whatever_due}
+use Rattle.stm_core.proofs.Ends.{whatever_due}
 use Rattle.stm_core.specs.Running.{InvariantAt, attempt_at, left_at}
 use Rattle.stm_core.proofs.running.Running.put_commit.Goals as goal
 

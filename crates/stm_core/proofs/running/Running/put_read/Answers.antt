@@ -1,4 +1,4 @@
-use Rattle.std.proofs.Common.{◌≡◌, Some, refl, rules, sym, ap, ◌∙◌, arith}
+use Rattle.std.proofs.Common.{◌≡◌, Some, refl, sym, ap, ◌∙◌, arith}
 use Rattle.op_read.specs.declared.read.ReadEnd.TheVariants.{NeedExtension}
 use Rattle.op_read.specs.declared.read.ReadPlace.TheVariants.{Ended}
 use Rattle.stm_core.proofs.Ends.{read_over}

@@ -6,9 +6,8 @@ use Rattle.world_run.specs.Run.{GoesOn}
 use Rattle.world_run.proofs.simulation.Simulation.ask_all.Given as goal
 
 abbrev pub invariant-loop-ask : goal.invariant-loop-ask
-invariant-loop-ask l = record {
+invariant-loop-ask g l = record {
   caller : IsCaller (terms_in l.self) l.caller;
-  opening : l.self.opening ≡ l.fn.self.opening;
   replied : IsTrue (replies (next_of (attempt_in l.self l.caller)));
-  goes : GoesOn l.fn.self l.caller (take l.ask-index l.asks) l.self;
+  goes : GoesOn g.L.Law.lawful g.L.Law.may l.fn.self l.caller (take l.ask-index l.asks) l.self;
 }

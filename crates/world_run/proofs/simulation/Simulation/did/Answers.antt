@@ -1,33 +1,21 @@
-use Rattle.std.proofs.Common.{◌<◌, sym, refl, subst, length}
-use Rattle.stm_model.specs.Moves.{Does}
-use Rattle.stm_model.specs.World.{IsCaller, Moves}
-use Rattle.world_run.specs.Simulation.{Simulation, Happens, attempt_in, terms_in, left_of, simulation_of}
-use Rattle.world_run.proofs.Turns.{does, has_due, stands_done}
-use Rattle.world_run.proofs.Falls.{did_falls}
+use Rattle.std.proofs.Common.{refl}
+use Rattle.world_run.specs.Simulation.{simulation_of}
+use Rattle.world_run.proofs.Seats.{none_changed}
+use Rattle.world_run.proofs.Turns.{does, done_advances, has_due}
 use Rattle.world_run.proofs.simulation.Simulation.did.Goals as goal
 
 pub did-requires : goal.did-requires
-did-requires c =
-    let caller = subst (λ (v : Simulation). IsCaller (terms_in v) c.args.caller) (sym c.self.view_is) c.requires.caller in
-    let due = subst (λ (v : Simulation). 0 < length (attempt_in v c.args.caller).due) (sym c.self.view_is) c.requires.due in
-    has_due _ _ _ c.self.invariant c.args.caller caller due
+did-requires g c = has_due c.self.invariant c.args.caller (rw (← c.self.view_is) at c.requires.caller) (rw (← c.self.view_is) at c.requires.due)
 
 pub invariant_of-self : goal.invariant_of-self
-invariant_of-self c =
-    let caller = subst (λ (v : Simulation). IsCaller (terms_in v) c.args.caller) (sym c.self.view_is) c.requires.caller in
-    let due = subst (λ (v : Simulation). 0 < length (attempt_in v c.args.caller).due) (sym c.self.view_is) c.requires.due in
-    stands_done _ _ _ c.self.invariant c.args.caller caller due _ refl refl refl refl c.did.ensures
+invariant_of-self g c =
+    let inside = c.self.inside in
+    let after = simulation_of inside.world inside.settings c.did.new.machines.items in
+    (does c.self.invariant c.args.caller (rw (← c.self.view_is) at c.requires.caller) (rw (← c.self.view_is) at c.requires.due) {after = after} (record { law = refl; opening = refl; settings = refl }) refl refl c.did.ensures).invariant
 
-pub returns-clause-happens : goal.returns-clause-happens
-returns-clause-happens c =
-    let caller = subst (λ (v : Simulation). IsCaller (terms_in v) c.args.caller) (sym c.self.view_is) c.requires.caller in
-    let due = subst (λ (v : Simulation). 0 < length (attempt_in v c.args.caller).due) (sym c.self.view_is) c.requires.due in
-    let after : Simulation = simulation_of c.self.inside.world.opening.items c.self.inside.world.words.items c.self.inside.world.history.items c.self.inside.settings c.did.new.machines.items in
-    subst (λ (v : Simulation). Happens v (Moves c.args.caller Does) after) c.self.view_is (does _ _ _ c.self.invariant c.args.caller caller due after refl refl refl refl c.did.ensures)
-
-pub returns-clause-falls : goal.returns-clause-falls
-returns-clause-falls c =
-    let caller = subst (λ (v : Simulation). IsCaller (terms_in v) c.args.caller) (sym c.self.view_is) c.requires.caller in
-    let due = subst (λ (v : Simulation). 0 < length (attempt_in v c.args.caller).due) (sym c.self.view_is) c.requires.due in
-    let after : Simulation = simulation_of c.self.inside.world.opening.items c.self.inside.world.words.items c.self.inside.world.history.items c.self.inside.settings c.did.new.machines.items in
-    subst (λ (v : Simulation). left_of after c.args.caller < left_of v c.args.caller) c.self.view_is (did_falls _ _ _ c.self.invariant c.args.caller caller after.machines due c.did.ensures)
+pub returns : goal.returns
+returns g c =
+    let inside = c.self.inside in
+    let after = simulation_of inside.world inside.settings c.did.new.machines.items in
+    rw (← c.self.view_is)
+    (done_advances c.self.invariant c.args.caller (rw (← c.self.view_is) at c.requires.caller) (rw (← c.self.view_is) at c.requires.due) {after = after} (record { law = refl; opening = refl; settings = refl }) refl refl c.did.ensures)

@@ -1,19 +1,24 @@
-use Rattle.std.proofs.Common.{refl}
-use Rattle.world_run.specs.Simulation.{Simulation, simulation_of}
-use Rattle.world_run.proofs.Openings.{opened_shows, opened_stands}
+use Rattle.std.proofs.Common.{refl, sym}
+use Rattle.world_run.specs.Simulation.{simulation_of}
+use Rattle.world_run.proofs.Openings.{opened_shows, opened_whole}
 use Rattle.world_run.proofs.simulation.Simulation.new.Goals as goal
 
 pub invariant_of-result : goal.invariant_of-result
-invariant_of-result c =
+invariant_of-result g c =
     let world = c.in_ok-world.world in
-    let made = c.in_ok-world.ensures in
-    let after : Simulation = simulation_of world.opening.items world.words.items world.history.items c.args.settings c.in_ok-machines.machines.items in
-    opened_stands after c.in_ok-machines.ensures.each (rw made.history refl) (rw made.opening (made.opens c.args.settings)) (rw made.opening (made.safe c.args.settings refl)) _ _
-    made.callers made.limit c.in_ok-machines.ensures.size c.requires.settings c.requires.attempts
+    let fresh = c.in_ok-world.ensures.fresh in
+    let opens = c.in_ok-world.ensures.opens c.args.settings refl in
+    let after = simulation_of world c.args.settings c.in_ok-machines.machines.items in
+    record {
+      callers = fresh.callers;
+      limit = fresh.limit;
+      whole = opened_whole g.L.Law.lawful g.L.Law.may after c.in_ok-machines.ensures.each (rw fresh.history refl) (rw (fresh.opening, fresh.law) opens)
+          c.in_ok-machines.ensures.size c.requires.settings c.requires.attempts;
+    }
 
 pub returns-clause-opens : goal.returns-clause-opens
-returns-clause-opens c =
+returns-clause-opens g c =
     let world = c.in_ok-world.world in
-    let made = c.in_ok-world.ensures in
-    let after : Simulation = simulation_of world.opening.items world.words.items world.history.items c.args.settings c.in_ok-machines.machines.items in
-    opened_shows after c.in_ok-machines.ensures.each (rw made.history refl) (rw made.opening (made.opens c.args.settings)) (rw made.opening (made.safe c.args.settings refl))
+    let fresh = c.in_ok-world.ensures.fresh in
+    let opens = c.in_ok-world.ensures.opens c.args.settings refl in
+    opened_shows g.L.Law.lawful g.L.Law.may (simulation_of world c.args.settings c.in_ok-machines.machines.items) c.in_ok-machines.ensures.each (rw fresh.history refl) (rw (fresh.opening, fresh.law) opens)

@@ -5,7 +5,7 @@ use Rattle.world_run.specs.Run.{GoesOn}
 use Rattle.world_run.proofs.simulation.Simulation.settle.Given as goal
 
 abbrev pub invariant-loop-self : goal.invariant-loop-self
-invariant-loop-self l = record { caller : IsCaller (terms_in l.self) l.caller; goes : GoesOn l.fn.self l.caller [] l.self }
+invariant-loop-self g l = record { caller : IsCaller (terms_in l.self) l.caller; goes : GoesOn g.L.Law.lawful g.L.Law.may l.fn.self l.caller [] l.self }
 
 abbrev pub decreases-loop-self : goal.decreases-loop-self
-decreases-loop-self l = left_of l.self l.caller
+decreases-loop-self g l = left_of l.self l.caller
