@@ -30,7 +30,7 @@ pub enum HostStatus {
     ReadFault,
     /// The sink failed.
     WriteFault,
-    /// Want of memory.
+    /// Out of memory.
     Memory,
 }
 

@@ -1,4 +1,4 @@
-//! The line that standard error is told. It takes no memory, so that want of memory is told too.
+//! The line that standard error is told. It takes no memory, so that being out of memory is told too.
 ghost use Rattle.std.specs.Prelude.{◌≡◌, ◌≤◌, ◌++◌, ◌∷◌, [], length};
 ghost use Rattle.ledger_program.specs.Status.{error_line, reason_word, refusal_line};
 

@@ -15,7 +15,7 @@ use Rattle.stm_model.specs.Evidence.{Evidence}
 use Rattle.stm_model.specs.Heap.{put, writes_to}
 use Rattle.stm_model.specs.Moves.{MayAsk, AwaitsAskAt, asked_at, asked_going, asked_stopped, enter_level, read_buffered, read_noted, undo_level, write_cell}
 use Rattle.stm_model.specs.Refusing.{deepest}
-use Rattle.stm_model.specs.Safe.{NamesNote, EndingAt, GivesBack, HasBegun, LevelsNest, PhaseAt, SafeStage}
+use Rattle.stm_model.specs.Safe.{NamesNote, EndingAt, ReleasesLevel, HasBegun, LevelsNest, PhaseAt, SafeStage}
 use Rattle.stm_model.specs.World.{Terms, World, cells_in}
 use Rattle.stm_model.proofs.HeapLemmas.{writes_to-lookup}
 use Rattle.opacity.proofs.Cells.{AlikeAt}
@@ -83,7 +83,7 @@ module _ (terms : Terms) (w : World) (p : ℕ) (t : Attempt) (here : Stage) (is_
       go true = with_saved (t.now ∷ t.saved) (Ready None) tt tt (([], sym (append-nil (keys_of t.now.writes))), sound.entry.words, sound.levels) tt
       go false = stopped_open terms w p t here is_open phase ending sound (TooDeep deepest) (refl, tt)
 
-  alike_level : (kept behind : List Write) (gives : GivesBack t kept behind) → gives.given ≡ [] → t.ending ≡ None → (cell : ℕ) → AlikeAt cell (release_level_on t kept behind) (at t here)
+  alike_level : (kept behind : List Write) (gives : ReleasesLevel t kept behind) → gives.given ≡ [] → t.ending ≡ None → (cell : ℕ) → AlikeAt cell (release_level_on t kept behind) (at t here)
   alike_level kept behind gives none undecided cell =
       let facts = open_facts here is_open in
       let these : HoldsThese (release_level_on t kept behind) kept behind cell = level_holds t kept behind cell gives undecided in
@@ -103,7 +103,7 @@ module _ (terms : Terms) (w : World) (p : ℕ) (t : Attempt) (here : Stage) (is_
   undone (former ∷ books) is some =
       let facts = open_facts here is_open in
       let level = gives_level t former books sound.levels is in
-      let gives : GivesBack t former.writes (drop (length former.writes) t.now.writes) = level.0 in
+      let gives : ReleasesLevel t former.writes (drop (length former.writes) t.now.writes) = level.0 in
       let undecided = facts.ending_from t.ending ending in
       record {
         alike = alike_level former.writes (drop (length former.writes) t.now.writes) gives level.1 undecided;

@@ -9,7 +9,7 @@ use Rattle.stm_model.specs.After.{release_level_on, run_all}
 use Rattle.stm_model.specs.Attempt.{Attempt, Due, Write, ReleaseLevel, Ready, held_at, unmarked_at, unstored_at, holds, marks, stamp_of}
 use Rattle.stm_model.specs.CellsState.{Book, level_runs, outer, returned}
 use Rattle.stm_model.specs.Heap.{put, writes_to}
-use Rattle.stm_model.specs.Safe.{EndingAt, GivesBack, HasBegun, LevelsNest, PhaseAt, SafeAttempt, SafeStage, EndsSo}
+use Rattle.stm_model.specs.Safe.{EndingAt, ReleasesLevel, HasBegun, LevelsNest, PhaseAt, SafeAttempt, SafeStage, EndsSo}
 use Rattle.stm_model.specs.World.{Terms, World, cells_in}
 use Rattle.stm_model.proofs.HeapLemmas.{AreWords-put, IsDistinct-put}
 use Rattle.opacity.proofs.Stands.{Sound, placed, sound_levels, sound_with}
@@ -70,7 +70,7 @@ level_behind former writes since whole =
     rw behind (rw append-nil whole)
 
 pub gives_level : (t : Attempt) (former : Book) (others : List Book) → LevelsNest (keys_of t.now.writes) t.saved → t.saved ≡ former ∷ others
-    → (gives : GivesBack t former.writes (drop (length former.writes) t.now.writes)) × (gives.given ≡ [])
+    → (gives : ReleasesLevel t former.writes (drop (length former.writes) t.now.writes)) × (gives.given ≡ [])
 gives_level t former others nest is =
     let level : LevelsNest (keys_of t.now.writes) (former ∷ others) = rw is at nest in
     (record { former = former; others = others; level = is; kept_writes = refl; given = []; whole = level_behind former.writes t.now.writes level.0.0 level.0.1 }, refl)
@@ -84,7 +84,7 @@ module _ (terms : Terms) (w : World) (p : ℕ) where
       sound_with terms w p t former.writes others sound (distinct_front (keys_of former.writes) nest.0.0 (rw nest.0.1 at sound.entry.writes_apart)) nest.1
       (All-front (λ cell. cell < cells_in terms) (keys_of former.writes) nest.0.0 (rw nest.0.1 at sound.written_cells)) nest.2
 
-  pub level_safe : (t : Attempt) (kept behind : List Write) → Sound terms w p t → GivesBack t kept behind → t.phase ≡ Active → t.ending ≡ None → SafeAttempt terms w p (release_level_on t kept behind)
+  pub level_safe : (t : Attempt) (kept behind : List Write) → Sound terms w p t → ReleasesLevel t kept behind → t.phase ≡ Active → t.ending ≡ None → SafeAttempt terms w p (release_level_on t kept behind)
   unfolding SafeStage PhaseAt EndingAt HasBegun EndsSo
   level_safe t kept [] sound gives active none =
       let u = record t { now = returned t.saved t.now; saved = outer t.saved; due = t.due ++ run_all (level_runs t.saved t.now) } in
@@ -106,7 +106,7 @@ and_not false = refl
 returned_writes : (saved : List Book) (now former : Book) (others : List Book) → saved ≡ former ∷ others → (returned saved now).writes ≡ former.writes
 returned_writes saved now former others is = rw is refl
 
-pub level_holds : (t : Attempt) (kept behind : List Write) (cell : ℕ) → GivesBack t kept behind → t.ending ≡ None → HoldsThese (release_level_on t kept behind) kept behind cell
+pub level_holds : (t : Attempt) (kept behind : List Write) (cell : ℕ) → ReleasesLevel t kept behind → t.ending ≡ None → HoldsThese (release_level_on t kept behind) kept behind cell
 unfolding held_at unmarked_at unstored_at
 level_holds t kept [] cell gives none =
     let back : (returned t.saved t.now).writes ≡ kept = returned_writes t.saved t.now gives.former gives.others gives.level ∙ sym gives.kept_writes in

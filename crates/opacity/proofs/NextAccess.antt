@@ -10,7 +10,7 @@ use Rattle.meta_word.specs.declared.status.TxnStatus.{TxnStatus}
 use Rattle.stm_model.specs.declared.note.Note.{Note}
 use Rattle.stm_model.specs.Accesses.{Act, access_of, next, next_at, unless_due, word_of}
 use Rattle.stm_model.specs.Attempt.{Attempt, Due, Stage, Write, AcquireMeta, Announce, Begin, CommitNote, Close, Decide, DoomOwner, ExtendNote, ReadValue, ReadMeta, ReleaseLevel, Mark, Acquire, Prepare, Release, ExtendClock, RollBack, CommitClock, Validate, OwnerMeta, OwnerStatus, StoreValues}
-use Rattle.stm_model.specs.Safe.{EndingAt, EndsWith, GivesBack, Safe, SafeStage, WasTaken, stamp_on}
+use Rattle.stm_model.specs.Safe.{EndingAt, EndsWith, ReleasesLevel, Safe, SafeStage, WasTaken, stamp_on}
 use Rattle.stm_model.specs.World.{IsCaller, Terms, World, attempt_of, cells_in}
 use Rattle.stm_model.proofs.HistoryLemmas.{last_within}
 use Rattle.opacity.specs.Words.{BringsWords, FieldsFit, FitsTable, IsOfTable}
@@ -50,7 +50,7 @@ module _ (lawful : List ℕ → Type 0) (may : List ℕ → List ℕ → Type 0)
   walked write behind ends =
       written_cell lawful may terms w p safe caller write.0 (next_of t.now.writes write behind (safe.attempts p caller).entry.writes_apart ends).there
 
-  given : (kept : List Write) (write : Write) (behind : List Write) → GivesBack t kept (write ∷ behind) → write.0 < cells_in terms
+  given : (kept : List Write) (write : Write) (behind : List Write) → ReleasesLevel t kept (write ∷ behind) → write.0 < cells_in terms
   given kept write behind gives = written_cell lawful may terms w p safe caller write.0 (out_there t kept write behind gives)
 
   noted : (checked behind : List Note) (note : Note) → t.notes ≡ checked ++ note ∷ behind → note.addr.0 < cells_in terms

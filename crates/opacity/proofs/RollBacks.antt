@@ -9,7 +9,7 @@ use Rattle.stm_model.specs.Accesses.{next_at}
 use Rattle.stm_model.specs.After.{after_at, at, release_level_on, mark_on, ring_if, roll_on}
 use Rattle.stm_model.specs.Attempt.{Attempt, Close, Due, ReleaseLevel, Mark, RollBack, CommitClock, Write, held_at, has_prepared, unmarked_at, unstored_at, flies_at, holds, marks, stamp_of}
 use Rattle.stm_model.specs.Heap.{writes_to}
-use Rattle.stm_model.specs.Safe.{EndingAt, EndsSo, EndsWith, GivesBack, HasBegun, HoldsNewest, PhaseAt, Safe, SafeAttempt, SafeStage, stamp_on}
+use Rattle.stm_model.specs.Safe.{EndingAt, EndsSo, EndsWith, ReleasesLevel, HasBegun, HoldsNewest, PhaseAt, Safe, SafeAttempt, SafeStage, stamp_on}
 use Rattle.stm_model.specs.World.{IsCaller, Terms, World, attempt_of, cells_in, words_after, clock_after, found, seen_after, since_at}
 use Rattle.opacity.proofs.Asks.{level_follows}
 use Rattle.opacity.proofs.Cells.{AlikeAt}
@@ -77,19 +77,19 @@ none_of front middle behind cell apart =
     let parts = or_parts (among front cell) (among middle cell) (sym (among-append front middle cell) ∙ before) in
     among-append front behind cell ∙ rw (parts.0, none_behind (front ++ middle) behind cell apart) refl
 
-out_gone : (t : Attempt) (kept : List Write) (write : Write) (behind : List Write) → IsDistinct nat_eq (keys_of t.now.writes) → GivesBack t kept (write ∷ behind) → writes_to (kept ++ behind) write.0 ≡ false
+out_gone : (t : Attempt) (kept : List Write) (write : Write) (behind : List Write) → IsDistinct nat_eq (keys_of t.now.writes) → ReleasesLevel t kept (write ∷ behind) → writes_to (kept ++ behind) write.0 ≡ false
 out_gone t kept write behind apart gives =
     let cells : IsDistinct nat_eq (keys_of kept ++ gives.given ++ write.0 ∷ keys_of behind) = rw gives.whole at apart in
     ap (λ cells. among cells write.0) (keys-append kept behind) ∙ none_of (keys_of kept) gives.given (keys_of behind) write.0 cells
 
-pub out_there : (t : Attempt) (kept : List Write) (write : Write) (behind : List Write) → GivesBack t kept (write ∷ behind) → writes_to t.now.writes write.0 ≡ true
+pub out_there : (t : Attempt) (kept : List Write) (write : Write) (behind : List Write) → ReleasesLevel t kept (write ∷ behind) → writes_to t.now.writes write.0 ≡ true
 out_there t kept write behind gives =
     ap (λ cells. among cells write.0) gives.whole ∙ among-append (keys_of kept ++ gives.given) (write.0 ∷ keys_of behind) write.0 ∙ rw (writes_to_here write behind) (or_true (among (keys_of kept ++ gives.given) write.0))
   where
     or_true : (b : Bool) → (b || true) ≡ true
     or_true b = grind arith
 
-gives_more : (t : Attempt) (due : List Due) (kept : List Write) (write : Write) (behind : List Write) → GivesBack t kept (write ∷ behind) → GivesBack (record t { due = due }) kept behind
+gives_more : (t : Attempt) (due : List Due) (kept : List Write) (write : Write) (behind : List Write) → ReleasesLevel t kept (write ∷ behind) → ReleasesLevel (record t { due = due }) kept behind
 gives_more t due kept write behind gives = record {
   former = gives.former;
   others = gives.others;
@@ -102,7 +102,7 @@ gives_more t due kept write behind gives = record {
     regroup : (front middle : List ℕ) (cell : ℕ) (behind : List ℕ) → front ++ middle ++ cell ∷ behind ≡ front ++ (middle ++ cell ∷ []) ++ behind
     regroup front middle cell behind = simp append_assoc
 
-given_alike : (t : Attempt) (due : List Due) (kept : List Write) (write : Write) (behind : List Write) → GivesBack (record t { due = due }) kept behind → t.ending ≡ None → (cell : ℕ) → cell ≢ write.0
+given_alike : (t : Attempt) (due : List Due) (kept : List Write) (write : Write) (behind : List Write) → ReleasesLevel (record t { due = due }) kept behind → t.ending ≡ None → (cell : ℕ) → cell ≢ write.0
     → AlikeAt cell (release_level_on (record t { due = due }) kept behind) (at t (ReleaseLevel kept write behind))
 unfolding held_at unmarked_at unstored_at
 given_alike t due kept write behind gives undecided cell other =
@@ -177,7 +177,7 @@ module _ (lawful : List ℕ → Type 0) (may : List ℕ → List ℕ → Type 0)
       let own = safe.attempts p caller in
       let stage = ReleaseLevel kept write behind in
       let cell = write.0 in
-      let gives : GivesBack t kept (write ∷ behind) = stage_is terms w p stage own is in
+      let gives : ReleasesLevel t kept (write ∷ behind) = stage_is terms w p stage own is in
       let undecided : t.ending ≡ None = ending_is terms w p stage own is in
       let active : t.phase ≡ Active = phase_is terms w p stage own is in
       let within : cell < cells_in terms = written_cell lawful may terms w p safe caller cell (out_there t kept write behind gives) in
@@ -185,7 +185,7 @@ module _ (lawful : List ℕ → Type 0) (may : List ℕ → List ℕ → Type 0)
       let stamp : stamp_on w cell ≡ 0 = rw (mine, undecided) refl in
       let settled : HoldsNewest terms w cell = (safe.cells cell within).settled stamp in
       let due = ring_if (w.meta cell).pending cell in
-      let more : GivesBack (record t { due = due }) kept behind = gives_more t due kept write behind gives in
+      let more : ReleasesLevel (record t { due = due }) kept behind = gives_more t due kept write behind gives in
       let meta : Meta = record (w.meta cell) { changing = false; owner = 0 } in
       let u = release_level_on (record t { due = due }) kept behind in
       let these : HoldsThese u kept behind cell = level_holds (record t { due = due }) kept behind cell more undecided in

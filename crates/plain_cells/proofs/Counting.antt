@@ -11,7 +11,7 @@ use Rattle.stm_model.proofs.CellsLemmas.{Extends-refl, Extends-append}
 use Rattle.stm_model.proofs.TellingLemmas.{learned_got}
 use Rattle.stm_model.proofs.RanLemmas.{Owes-free, Ran-calls, Ran-refused}
 
--- a read, a write and a body put off
+-- a read, a write and a before-commit body
 pub Ran-counted : (lawful : List ℕ → Type 0) (may : List ℕ → List ℕ → Type 0)
     (means : List ℕ → Book → Result ℕ Cause → Book → Type 0) (leaves : List ℕ → Book → Type 0)
     (address value : ℕ) (s m n t : CellsState)

@@ -108,7 +108,7 @@ read_lines (line ∷ more) = if bytes_eq line (codes "stm 1") then read_on now.H
 abbrev pub job_of : List ℕ → Option Job
 job_of text = if ends_every_line text then read_lines (lines text) else None
 
--- The call answers what is read. Where nothing is, it refuses the text as a whole; it may lack memory.
+-- The call answers what is read. Where nothing is, it refuses the text as a whole; it may be out of memory.
 abbrev pub Reads : {A : Type 0} → Result A ParseFault → Option A → Type 0
 Reads (Ok x) read = read ≡ Some x
 Reads (Err fault.Memory) read = Unit {0}

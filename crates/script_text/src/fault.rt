@@ -10,7 +10,7 @@ use stm_model::Memory;
 pub enum ParseFault {
     /// The line is refused, and no earlier one. Line 0 stands for the text as a whole.
     Script { line: u64, reason: Reason },
-    /// Want of memory.
+    /// Out of memory.
     Memory,
 }
 

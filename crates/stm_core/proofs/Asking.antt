@@ -1,4 +1,4 @@
--- An ask is taken, or refused for want of memory.
+-- An ask is taken, or refused, out of memory.
 use Rattle.std.proofs.Common.{◌≡◌, ℕ, ◌+◌, ◌*◌, ◌⊎◌, inl, inr, IsFalse, IsSome, List, [], ◌∷◌, length, Option, refl, sym, ap, ◌∙◌, subst, arith}
 use Rattle.meta_word.specs.Policy.{looks}
 use Rattle.stm_core.proofs.Shown.{shown_alike}

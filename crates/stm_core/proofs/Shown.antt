@@ -72,7 +72,7 @@ notes_shown r m sound is = sym (shown_alike r sound).notes ∙ ap (λ (m : Machi
 pub writes_shown : (r : Running) (m : Machine) → IsSound r → machine_of r ≡ m → r.footprint.writes.writes ≡ m.attempt.now.writes
 writes_shown r m sound is = sym (shown_alike r sound).writes ∙ ap (λ (m : Machine). m.attempt.now.writes) is
 
--- No body that was put off has its turn, so it may be asked to finish.
+-- No before-commit body has its turn, so it may be asked to finish.
 pub finishes : (r : Running) (m : Machine) → IsSound r → machine_of r ≡ m → MayAsk (2 ^ 32) m.attempt Finish
 unfolding MayAsk
 finishes r m sound is = subst (λ (m : Machine). m.attempt.turn ≡ 0) is (shown_alike r sound).turn

@@ -147,7 +147,7 @@ pub record IsSameAttempt (before after : Attempt) : Type 0 where
 
 -- ---- what an ask makes of it
 
--- The ask is refused for want of memory, where it wants some.
+-- The ask is refused, out of memory, where it wants some.
 pub record IsRefused (before : Attempt) (ask : Ask) (after : Attempt) : Type 0 where
   pub wants : MayRunOut before ask
   pub going : cause_at before.stage ≡ None

@@ -206,7 +206,7 @@ ready r told = at (base r) (Ready told)
 abbrev pub refused : Running → (cause : Cause) → Attempt
 refused r cause = at (base r) (Stopped cause)
 
--- The ask is refused for want of memory, where it wants some.
+-- The ask is refused, out of memory, where it wants some.
 abbrev pub RunsOut : Attempt → Ask → (after : Attempt) → Type 0
 RunsOut t ask after = MayRunOut t ask × (after ≡ stopped t Memory)
 

@@ -65,7 +65,7 @@ impl Attempt {
     }
 
     /// Asks it for something, where its reply isn't the end. `Finish` ends the body, `Abandon` rolls it back with
-    /// a cause of the body's own or the one that it was refused with. Want of memory is the cause `Memory`.
+    /// a cause of the body's own or the one that it was refused with. Out of memory is the cause `Memory`.
     /// After any cause each later ask of a cell leaves it as it is, so that the reply is the same.
     pub fn ask(&mut self, ask: Ask)
         requires waits { AwaitsAsk self.old.attempt }

@@ -23,6 +23,6 @@ moved : (own : ℕ) (first second : Meta) → changing_by_another own first ≡ 
 moved own first second quiet (inl other) = inl (λ same. other (sym same))
 moved own first second quiet (inr busy) = inr (inl (busy, quiet))
 
--- Nobody else was changing the cell at the first look, and it no longer stands so at the second.
+-- Nobody else was changing the cell when its metadata was loaded, and validation shows another.
 pub has_moved : (own : ℕ) (first second : Meta) → changing_by_another own first ≡ false → still_has own first.version second ≡ false → HasMoved own first second
 has_moved own first second quiet h = moved own first second quiet (is_stale own first.version second h)

@@ -1,4 +1,4 @@
--- A whole transaction whose body puts nothing off.
+-- A whole transaction without before-commit bodies.
 use Rattle.std.proofs.Common.{◌≡◌, ℕ, List, [], refl, sym, subst}
 use Rattle.std.specs.Prelude.{Result, Ok}
 use Rattle.stm_model.specs.declared.cause.Cause.{Cause}

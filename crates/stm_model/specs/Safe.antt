@@ -116,7 +116,7 @@ pub record WasSampled (w : World) (t : Attempt) (clock : ℕ) (behind : List Not
   pub each : All (λ note. note.version ≡ last w.history clock note.addr.0) checked
 
 -- The level that is undone began with these writes. The cells that were first written since are released one by one, and those behind are still held.
-pub record GivesBack (t : Attempt) (kept behind : List Write) : Type 0 where
+pub record ReleasesLevel (t : Attempt) (kept behind : List Write) : Type 0 where
   pub former : Book
   pub others : List Book
   pub level : t.saved ≡ former ∷ others
@@ -150,7 +150,7 @@ SafeStage terms w t (DoomOwner cell value left first second status) =
     IsToWrite terms t cell value × WasTaken terms w t cell first × WasTaken terms w t cell second × (second.owner ≡ first.owner) × (status.phase ≡ Active)
 SafeStage terms w t (Acquire cell value left tried first expected again) =
     IsToWrite terms t cell value × WasFound terms w cell expected × IsFree first expected again
-SafeStage terms w t (ReleaseLevel kept write behind) = GivesBack t kept (write ∷ behind)
+SafeStage terms w t (ReleaseLevel kept write behind) = ReleasesLevel t kept (write ∷ behind)
 SafeStage terms w t Prepare = 0 < length t.now.writes
 SafeStage terms w t (Mark write behind) = EndsWith t.now.writes (write ∷ behind)
 SafeStage terms w t (CommitClock lost) = 0 < length t.now.writes

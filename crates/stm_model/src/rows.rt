@@ -23,7 +23,7 @@ pub fn no_update_is_lost()
 
 /// Two callers read the same two cells, and each is to write their sum to one of them, not the same.
 /// Neither finds its cell owned. But once the first has committed, the second finds that what it read is
-/// stale. So it gives its cell back, and its next attempt adds up what the first left.
+/// stale. So it rolls back, and its next attempt adds up what the first left.
 pub fn no_sum_is_skewed()
     ensures owners { ((pair skew).meta 0 ≡ owned 1 unwritten) × ((pair skew).meta 1 ≡ owned 2 unwritten) }
     ensures stale { (attempt_of (pair skew_found) 2).ending ≡ Some (Rolled stale 0) }
@@ -90,7 +90,7 @@ pub fn no_value_is_read_while_it_is_stored()
 {}
 
 /// A caller owns a cell that another is to write. The other dooms it, and is refused the cell all the
-/// same. The owner finds that it is doomed when it is to prepare, and gives the cell back. Each writes
+/// same. The owner finds that it is doomed when it is to prepare, and rolls back. Each writes
 /// the cell in its next attempt.
 pub fn a_doomed_owner_rolls_back()
     ensures doomed { (dooming doom).status 1 ≡ doomed (active 1) }

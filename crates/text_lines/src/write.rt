@@ -1,5 +1,5 @@
 //! Appending to a text. A row is its first word by `put` or `put_number`, each further one by
-//! `put_word` or `put_number_word`, and `end_line`. The only error is want of memory.
+//! `put_word` or `put_number_word`, and `end_line`. The only error is being out of memory.
 
 ghost use Rattle.std.specs.Prelude.{◌≡◌, ◌⊎◌, [], ◌∷◌, ◌++◌, decimal, OnOk, OnErr};
 

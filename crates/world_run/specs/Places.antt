@@ -34,7 +34,7 @@ pub record IsDone (before after : List (Option Machine)) (place : ℕ) : Type 0 
   pub attempt : now.attempt ≡ moved was.attempt Does
   pub left : now.left ≡ was.left
 
--- The attempt at this place was asked: it took the ask, or refused it for want of memory.
+-- The attempt at this place was asked: it took the ask, or refused it, out of memory.
 pub record IsAsked (before after : List (Option Machine)) (place : ℕ) (ask : Ask) : Type 0 where
   pub was : Machine
   pub now : Machine

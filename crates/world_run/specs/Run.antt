@@ -20,7 +20,7 @@ use Rattle.world_run.specs.Simulation.{Simulation, HasSameTerms, IsOver, IsSameO
 
 -- ---- who moved
 
--- the asks among some events, whether they were taken or refused for want of memory
+-- the asks among some events, whether they were taken or refused, out of memory
 unfoldable pub asks_of : Event → List Ask
 asks_of (Moves p (Takes ask)) = ask ∷ []
 asks_of (Moves p (OutOfMemory ask)) = ask ∷ []

@@ -18,7 +18,7 @@ impl<L: Law + Drop> Simulation<L> {
     /// Makes a caller's next attempt as a whole, nobody else moving, and gives its ending. It begins, is asked
     /// for each of these in turn and then to finish, unless it is over before, and after each ask it goes on
     /// until it replies. What is written has to meet what is owed, whatever is read. Where no attempt may
-    /// begin there is none, and nothing changes. Memory is wanting only for the exchange of the clock; the
+    /// begin there is none, and nothing changes. It may be out of memory for the exchange of the clock alone; the
     /// attempt stands before it then, and may go on.
     pub fn run_attempt(&mut self, caller: u16, asks: &[Ask]) -> Result<Option<Ending>, Memory>
         requires caller { IsCaller (terms_in self.old) caller }

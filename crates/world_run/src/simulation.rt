@@ -156,7 +156,7 @@ impl<L: Law + Drop> Simulation<L> {
     }
 
     /// Asks a caller's attempt, and tells whether it was asked: it is exactly where it waits and may take
-    /// such an ask. It takes it then, or refuses it for want of memory.
+    /// such an ask. It takes it then, or refuses it, out of memory.
     pub fn ask(&mut self, caller: u16, ask: Ask) -> bool
         requires caller { IsCaller (terms_in self.old) caller }
         ensures asked { IsTrue result → Happens L.lawful L.may self.old (Moves caller (Takes ask)) self.new ⊎ Happens L.lawful L.may self.old (Moves caller (OutOfMemory ask)) self.new }
@@ -175,7 +175,7 @@ impl<L: Law + Drop> Simulation<L> {
 
     /// Makes what a caller's attempt does next: its next access, or the ring that is due. Where it replies,
     /// nothing happens. Where it would win the exchange of the clock, its writes have to meet what is owed.
-    /// Want of memory changes nothing.
+    /// Out of memory, nothing changes.
     pub fn advance(&mut self, caller: u16) -> Result<(), Memory>
         requires caller { IsCaller (terms_in self.old) caller }
         requires owed { MeetsOwedNext L.lawful L.may self.old caller }
