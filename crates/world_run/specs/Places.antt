@@ -10,6 +10,8 @@ use Rattle.stm_model.specs.Refusing.{IsOfBody}
 use Rattle.stm_model.specs.declared.access.Ask.{Ask}
 use Rattle.stm_model.specs.declared.access.Ask.TheVariants.{Abandon, Finish, Get, Set}
 use Rattle.world_run.specs.Simulation.{IsAskable}
+use Rattle.stm_model.specs.declared.cause.Cause.{Cause}
+use Rattle.stm_model.specs.declared.cause.Cause.TheVariants.{ReadConflict, Moved, Stale, WriteConflict}
 
 -- Of these attempts the one at this place changes.
 pub record Changes (before after : List (Option Machine)) (place : ℕ) (was now : Machine) : Type 0 where
@@ -71,3 +73,11 @@ TakesAsk size told (Set cell value) = (cell.0 < size) × (value < 2 ^ 64)
 TakesAsk size told Finish = Unit {0}
 TakesAsk size told (Abandon cause) = IsOfBody cause ⊎ (told ≡ Reply (reply.Stopped cause))
 TakesAsk size told ask = ⊥
+
+-- The cause names a cell.
+abbrev pub NamesCell : Cause → Type 0
+NamesCell (ReadConflict addr meta) = Unit {0}
+NamesCell (Moved addr first second) = Unit {0}
+NamesCell (Stale addr version meta) = Unit {0}
+NamesCell (WriteConflict addr meta) = Unit {0}
+NamesCell _ = ⊥

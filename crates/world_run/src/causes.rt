@@ -1,6 +1,7 @@
 //! Whether two causes are the same, and whether one is a body's own.
 ghost use Rattle.std.specs.Prelude.{◌≡◌, IsTrue};
 ghost use Rattle.stm_model.specs.Refusing.{IsOfBody};
+ghost use Rattle.world_run.specs.Places.{NamesCell};
 
 use stm_model::Cause;
 
@@ -20,6 +21,20 @@ pub fn is_of_body(cause: Cause) -> bool
 pub fn is_same(cause: Cause, other: Cause) -> bool
     ensures may { IsTrue result → cause ≡ other }
     ensures told { cause ≡ other → IsTrue result }
+{
+    match cause {
+        Cause::ReadConflict { .. }
+        | Cause::Moved { .. }
+        | Cause::Stale { .. }
+        | Cause::WriteConflict { .. } => is_same_of_cell(cause, other),
+        _ => is_same_of_attempt(cause, other),
+    }
+}
+
+// The same, of a cause that names a cell.
+fn is_same_of_cell(cause: Cause, other: Cause) -> bool
+    ensures may { IsTrue result → cause ≡ other }
+    ensures told { NamesCell cause → cause ≡ other → IsTrue result }
 {
     match (cause, other) {
         (
@@ -60,6 +75,16 @@ pub fn is_same(cause: Cause, other: Cause) -> bool
                 meta: word,
             },
         ) => addr == cell && meta == word,
+        _ => false,
+    }
+}
+
+// The same, of a cause that names no cell.
+fn is_same_of_attempt(cause: Cause, other: Cause) -> bool
+    ensures may { IsTrue result → cause ≡ other }
+    ensures told { ¬ NamesCell cause → cause ≡ other → IsTrue result }
+{
+    match (cause, other) {
         (Cause::Doomed { status }, Cause::Doomed { status: word }) => status == word,
         (
             Cause::ClockMoved { first, second },
