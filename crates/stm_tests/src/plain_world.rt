@@ -1,5 +1,6 @@
 //! The plain world at work.
 ghost use Rattle.std.specs.Prelude.{◌≡◌, ◌<◌, length, IfOk};
+ghost use Rattle.stm_model.specs.declared.access.Access.TheVariants.{Exchange};
 
 use meta_word::{CHANGING_BIT, Meta, Phase, TxnStatus, pack_meta, pack_status};
 use opacity::World;
@@ -48,6 +49,12 @@ fn cell_of(owner: u16, version: u64) -> u64
     })
 }
 
+fn exchange(word: Word, old: u64, new: u64) -> Access
+    ensures { result ≡ Exchange word old new }
+{
+    Access::Exchange { word, old, new }
+}
+
 #[test]
 #[tactic(auto, unfolding(opacity::specs::Words::IsOfTable, stm_model::specs::Accesses::word_of, opacity::specs::Plain::IsUndecided))]
 fn a_write_is_committed(rt: HostRuntime) -> Result<(), Fail> {
@@ -60,25 +67,9 @@ fn a_write_is_committed(rt: HostRuntime) -> Result<(), Fail> {
     assert_eq!(rt; world.act(1, Access::Load(Word::Clock), &attempts), 0);
     let found = world.act(1, Access::Load(meta), &attempts);
     let own = cell_of(1, 0);
-    world.act(
-        1,
-        Access::Exchange {
-            word: meta,
-            old: found,
-            new: own,
-        },
-        &attempts,
-    );
+    world.act(1, exchange(meta, found, own), &attempts);
     assert_eq!(rt; world.word(meta), own);
-    world.act(
-        1,
-        Access::Exchange {
-            word: status,
-            old: active,
-            new: preparing,
-        },
-        &attempts,
-    );
+    world.act(1, exchange(status, active, preparing), &attempts);
     world.act(1, Access::SetBits(meta, CHANGING_BIT), &attempts);
     assert_eq!(rt; world.act(1, Access::Load(Word::Clock), &attempts), 0);
     let mut writes = Vec::new(rt.alloc());
