@@ -272,7 +272,7 @@ fn explore(alloc: Global, policy: Policy, scripts: (Script, Script)) -> Result<R
     Ok(reached)
 }
 
-const POLICIES: [Policy; 2] = [Policy::GiveWay, Policy::Look(1)];
+const POLICIES: [Policy; 3] = [Policy::GiveWay, Policy::Look(1), Policy::Doom(0)];
 
 // Whether an attempt has committed, as a writer.
 fn is_committed(ending: Option<Ending>) -> bool {
