@@ -1,5 +1,5 @@
 use Rattle.std.proofs.Common.{◌≡◌}
-use Rattle.stm_tests.proofs.attempts.large.many_cells_take_the_accesses_of_each.Given as goal
+use Rattle.attempt_tests.proofs.attempts.large.many_cells_take_the_accesses_of_each.Given as goal
 
 abbrev pub invariant-loop-cell : goal.invariant-loop-cell
 invariant-loop-cell g l = l.attempt.attempt.settings.clock ≡ 9

@@ -1,5 +1,5 @@
 use Rattle.std.proofs.Common.{◌≡◌}
-use Rattle.stm_tests.proofs.attempts.ends.reserved_room_is_enough_for_so_many_cells.Given as goal
+use Rattle.attempt_tests.proofs.attempts.ends.reserved_room_is_enough_for_so_many_cells.Given as goal
 
 abbrev pub invariant-loop-cell : goal.invariant-loop-cell
 invariant-loop-cell g l = l.attempt.attempt.settings.clock ≡ 9

@@ -1,5 +1,5 @@
 use Rattle.std.proofs.Common.{◌≡◌}
-use Rattle.stm_tests.proofs.interleavings.replayed.Given as goal
+use Rattle.attempt_tests.proofs.interleavings.replayed.Given as goal
 
 abbrev pub invariant-loop-second : goal.invariant-loop-second
 invariant-loop-second l = l.pair.simulation.settings.callers ≡ 2
