@@ -1,4 +1,4 @@
--- Why there is no report.
+-- Private: why there is no report.
 use Rattle.std.specs.Prelude.{ℕ, List, Option}
 use Rattle.stm_io.specs.Faults.{Rose}
 use Rattle.stm_io.specs.Whole.{TookAtMost, most_bytes}

@@ -1,4 +1,4 @@
--- What is listed while a job's scripts run, one worker after another.
+-- Private: what is listed while a job's scripts run, one worker after another.
 use Rattle.std.specs.Prelude.{◌≡◌, ℕ, ◌+◌, ◌<◌, ◌≤◌, nat_le, if◌then◌else◌, IsTrue, List, [], ◌∷◌, ◌++◌, length, map}
 use Rattle.std.specs.List.{AllByRecursion, range_with_len}
 use Rattle.stm_model.specs.declared.settings.Settings.{Settings}

@@ -1,4 +1,4 @@
--- Which job the lines of a text say, one step for each line. The code is proved to read so, and `Form` says what that comes to.
+-- Private: which job the lines of a text say, one step for each line. The code is proved to read so, and `Form` says what that comes to.
 use Rattle.std.specs.Prelude.{◌≡◌, ℕ, ◌+◌, nat_eq, nat_lt, nat_le, if◌then◌else◌, List, [], ◌∷◌, ◌++◌, length, map, codes, bytes_eq, Option, Some, None, Result, Ok, Err}
 use Rattle.text_lines.specs.Lines.{Row, lines, fields, ends_every_line}
 use Rattle.text_lines.specs.Numbers.{number_of}

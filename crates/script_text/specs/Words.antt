@@ -1,4 +1,4 @@
--- What single words of a line say.
+-- Private: what single words of a line say.
 use Rattle.std.specs.Prelude.{ℕ, Bool, not, ◌&&◌, nat_eq, nat_lt, if◌then◌else◌, List, [], ◌∷◌, length, slice_index, codes, bytes_eq, Option, Some, None, option_and_then}
 use Rattle.text_lines.specs.Lines.{Row, fields}
 use Rattle.text_lines.specs.Numbers.{number_of}
