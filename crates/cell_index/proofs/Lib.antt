@@ -1,0 +1,4 @@
+pub mod Beside
+pub mod Chains
+pub mod Finding
+pub mod Room
