@@ -13,7 +13,7 @@ use Rattle.stm_model.specs.After.{meta_acquired, acquiring, after_at, at, done, 
 use Rattle.stm_model.specs.Attempt.{AcquireMeta, Attempt, Acquire, Ready, OwnerStatus, Stage, Write, held_at, holds, unmarked_at, unstored_at}
 use Rattle.stm_model.specs.Evidence.{Evidence, HasMoved}
 use Rattle.stm_model.specs.Heap.{put, writes_to}
-use Rattle.stm_model.specs.Safe.{NamesNote, IsKept, EndingAt, EndsSo, HasBegun, IsFree, IsToWrite, PhaseAt, Safe, SafeAttempt, SafeStage, WasFound, stamp_on}
+use Rattle.stm_model.specs.Safe.{NamesNote, IsKept, EndingAt, EndsSo, HasBegun, IsFree, IsToWrite, PhaseAt, Safe, SafeAttempt, SafeStage, WasFound, stamp_on, Sound}
 use Rattle.stm_model.specs.World.{IsCaller, Terms, World, attempt_of, cells_in, words_after, clock_after, found, seen_after, since_at, with_meta, with_view}
 use Rattle.opacity.proofs.Cells.{AlikeAt}
 use Rattle.opacity.proofs.Ends.{stopped_open}
@@ -21,7 +21,7 @@ use Rattle.opacity.proofs.Fits.{Fits, IsOpen, ending_is, goes_on_same, open_fact
 use Rattle.opacity.proofs.Levels.{and_not, put_new}
 use Rattle.opacity.proofs.ReadSteps.{knows_attempt}
 use Rattle.opacity.proofs.Shown.{Shows, conflict_shown, names_found, write_shown}
-use Rattle.opacity.proofs.Stands.{IsPlain, Follows, Sound, placed, sound_of}
+use Rattle.opacity.proofs.Stands.{IsPlain, Follows, placed}
 use Rattle.opacity.proofs.Stepping.{stepped}
 use Rattle.opacity.proofs.Touch.{free_quiet, free_stamp, kept, owner_is_not, owner_low, safe_touched}
 use Rattle.opacity.proofs.Walks.{among, among-append, keys-put_new}
@@ -111,7 +111,7 @@ module _ (lawful : List ℕ → Type 0) (may : List ℕ → List ℕ → Type 0)
   own = safe.attempts p caller
 
   sound : Sound terms w p t
-  sound = sound_of terms w p t own
+  sound = own.sound
 
   -- a word that is found now
   pub found_now : (cell : ℕ) → cell < cells_in terms → WasFound terms w cell (w.meta cell)
@@ -122,7 +122,7 @@ module _ (lawful : List ℕ → Type 0) (may : List ℕ → List ℕ → Type 0)
   not_own stage is_open is cell value write =
       let free : holds t cell ≡ false = subst (λ (s : Stage). writes_to (held_at t.now.writes s) cell ≡ false) (sym is) (rw ((open_facts stage is_open).held t.now.writes) write.unwritten) in
       let other : (w.meta cell).owner ≢ p = owner_is_not lawful may terms w safe p cell caller.0 write.in_range free in
-      λ same. other (same ∙ own.own)
+      λ same. other (same ∙ own.sound.own)
 
   -- so where no other caller owns it nobody does
   pub nobodys : (stage : Stage) → IsOpen stage → t.stage ≡ stage → (cell value : ℕ) → IsToWrite terms t cell value → owned_by_another t.own (w.meta cell) ≡ false → (w.meta cell).owner ≡ 0
@@ -225,7 +225,7 @@ module _ (lawful : List ℕ → Type 0) (may : List ℕ → List ℕ → Type 0)
         let stamp : stamp_on w cell ≡ 0 = free_stamp lawful may terms w safe cell nobody in
         safe_touched lawful may terms w p safe caller cell at_stage.0.in_range (owned t.own expected) won owning_here is taken_alike taken_follows taken_safe
         (omega (arith, same.version)) (λ at set. sym (same_pending (w.meta cell) expected test) ∙ set) (inl stamp)
-        (kept lawful may terms w p safe caller cell at_stage.0.in_range (owned t.own expected) won own.own (put_here t.now.writes cell value at_stage.0.unwritten)
+        (kept lawful may terms w p safe caller cell at_stage.0.in_range (owned t.own expected) won own.sound.own (put_here t.now.writes cell value at_stage.0.unwritten)
         (and_not (writes_to (put t.now.writes cell value) cell) ∙ sym at_stage.2.quiet) (rw undecided refl) stamp (sym same.version) (inr nobody))
 
     -- Where it was lost for good, and no other owns the cell now, its version has risen.

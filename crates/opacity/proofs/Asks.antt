@@ -15,7 +15,7 @@ use Rattle.stm_model.specs.Evidence.{Evidence}
 use Rattle.stm_model.specs.Heap.{put, writes_to}
 use Rattle.stm_model.specs.Moves.{MayAsk, AwaitsAskAt, asked_at, asked_going, asked_stopped, enter_level, read_buffered, read_noted, undo_level, write_cell}
 use Rattle.stm_model.specs.Refusing.{deepest}
-use Rattle.stm_model.specs.Safe.{NamesNote, EndingAt, ReleasesLevel, HasBegun, LevelsNest, PhaseAt, SafeStage}
+use Rattle.stm_model.specs.Safe.{NamesNote, EndingAt, ReleasesLevel, HasBegun, LevelsNest, PhaseAt, SafeStage, Sound}
 use Rattle.stm_model.specs.World.{Terms, World, cells_in}
 use Rattle.stm_model.proofs.HeapLemmas.{writes_to-lookup}
 use Rattle.opacity.proofs.Cells.{AlikeAt}
@@ -23,7 +23,7 @@ use Rattle.opacity.proofs.Ends.{gone_on, rolled_open, stopped_open}
 use Rattle.opacity.proofs.Fits.{Fits, IsOpen, goes_on, goes_on_same, open_facts, open_fits, open_fits_with}
 use Rattle.opacity.proofs.Levels.{HoldsThese, and_not, level_holds, level_safe, gives_level, nest_outer, put_written}
 use Rattle.opacity.proofs.Shown.{Shows, abandon_shown}
-use Rattle.opacity.proofs.Stands.{IsPlain, Follows, Sound, follows_at, sound_levels}
+use Rattle.opacity.proofs.Stands.{IsPlain, Follows, follows_at, sound_levels}
 use Rattle.opacity.proofs.Walks.{keys-append, keys-put_written, writes_to_keys}
 
 -- An attempt that undoes a level goes on as the same one.

@@ -16,7 +16,7 @@ use Rattle.stm_model.specs.Handlers.{committing}
 use Rattle.stm_model.specs.Evidence.{Evidence}
 use Rattle.stm_model.specs.History.{IsCurrent}
 use Rattle.stm_model.specs.Owes.{Owes}
-use Rattle.stm_model.specs.Safe.{NamesNote, EndingAt, EndsSo, HasBegun, PhaseAt, Safe, SafeAttempt, SafeStage, WasSampled, stamp_on}
+use Rattle.stm_model.specs.Safe.{NamesNote, EndingAt, EndsSo, HasBegun, PhaseAt, Safe, SafeAttempt, SafeStage, WasSampled, stamp_on, Sound}
 use Rattle.stm_model.specs.World.{IsCaller, Terms, World, attempt_of, cells_in, words_after, clock_after, entry_of, found, seen_after, since_at, with_view}
 use Rattle.stm_model.proofs.EvidenceLemmas.{is_stale}
 use Rattle.opacity.proofs.Decides.{decided_safe}
@@ -25,7 +25,7 @@ use Rattle.opacity.proofs.Fits.{Fits, ending_is, phase_is, safe_local, safe_seen
 use Rattle.opacity.proofs.ReadSteps.{knows_attempt, knows_clock}
 use Rattle.opacity.proofs.Samples.{not_written, sampled_all, sampled_more, sampled_start, still_current}
 use Rattle.opacity.proofs.Shown.{all_at, names_checked}
-use Rattle.opacity.proofs.Stands.{IsPlain, Sound, follows_at, placed, sound_at, sound_of}
+use Rattle.opacity.proofs.Stands.{IsPlain, follows_at, placed, sound_at}
 use Rattle.opacity.proofs.Stepping.{stepped}
 
 -- Where it is to be decided, an attempt holds its cells, all of them marked.
@@ -115,7 +115,7 @@ module _ (lawful : List ℕ → Type 0) (may : List ℕ → List ℕ → Type 0)
   own = safe.attempts p caller
 
   sound : Sound terms w p t
-  sound = sound_of terms w p t own
+  sound = own.sound
 
   pub keeps_commit_clock : (lost : ℕ) → t.stage ≡ CommitClock lost → Safe lawful may terms (stepped w p (CommitClock lost))
   unfolding next_at after_at words_after found seen_after since_at clock_after SafeStage
@@ -123,7 +123,7 @@ module _ (lawful : List ℕ → Type 0) (may : List ℕ → List ℕ → Type 0)
       let stage = CommitClock lost in
       safe_seen lawful may terms w p safe caller stage is _
       (checks terms w p t stage tt (phase_is terms w p stage own is) (ending_is terms w p stage own is) sound lost w.clock t.notes (stage_is terms w p stage own is) safe.limit
-      (sampled_start w t w.clock (omega (arith, own.prefix, safe.clock)) (omega (arith, safe.clock))))
+      (sampled_start w t w.clock (omega (arith, own.sound.prefix, safe.clock)) (omega (arith, safe.clock))))
       (knows_clock lawful may terms w p safe caller _ refl refl refl)
 
   no_stamp : (stage : Stage) → Weighs stage → t.stage ≡ stage → stamp_of t ≡ 0
@@ -147,9 +147,9 @@ module _ (lawful : List ℕ → Type 0) (may : List ℕ → List ℕ → Type 0)
           → Fits terms w p (at t stage) (if b then validate_on t lost clock behind else rolled t (Stale note.addr note.version (w.meta note.addr.0)))
       go true same =
           let tests = and_parts (nat_eq (w.meta note.addr.0).version note.version) (not (changing_by_another t.own (w.meta note.addr.0))) same in
-          let within : note.addr.0 < cells_in terms = all_at (λ each. each.addr.0 < cells_in terms) sampled.checked behind t.notes note sampled.notes own.noted_cells in
-          let current : IsCurrent terms.opening w.history t.prefix note = all_at (IsCurrent terms.opening w.history t.prefix) sampled.checked behind t.notes note sampled.notes own.notes in
-          let quiet : changing_by_another p (w.meta note.addr.0) ≡ false = rw own.own at (not-true (changing_by_another t.own (w.meta note.addr.0)) tests.1) in
+          let within : note.addr.0 < cells_in terms = all_at (λ each. each.addr.0 < cells_in terms) sampled.checked behind t.notes note sampled.notes own.sound.noted_cells in
+          let current : IsCurrent terms.opening w.history t.prefix note = all_at (IsCurrent terms.opening w.history t.prefix) sampled.checked behind t.notes note sampled.notes own.sound.notes in
+          let quiet : changing_by_another p (w.meta note.addr.0) ≡ false = rw own.sound.own at (not-true (changing_by_another t.own (w.meta note.addr.0)) tests.1) in
           let none : stamp_on w note.addr.0 ≡ 0 = not_written lawful may terms w safe p note.addr.0 within (no_stamp stage tt is) quiet in
           let still = still_current lawful may terms w safe t.prefix clock note within none (eqb-true _ _ tests.0) current sampled.low sampled.high in
           checks terms w p t stage tt (phase_is terms w p stage own is) (ending_is terms w p stage own is) sound lost clock behind at_stage.0 (omega (arith, sampled.high, safe.clock, safe.limit)) (sampled_more w t clock note behind sampled still)

@@ -10,7 +10,7 @@ use Rattle.stm_model.specs.Attempt.{Attempt, Decide, Due, Stage, StoreValues, he
 use Rattle.stm_model.specs.Heap.{over, writes_to}
 use Rattle.stm_model.specs.History.{Entry, IsCurrent, IsLegal, entry_after, last, state}
 use Rattle.stm_model.specs.Owes.{Owes}
-use Rattle.stm_model.specs.Safe.{IsKept, EntriesAreCallers, EndingAt, EndsSo, HasBegun, HoldsNewest, KeepsLaw, PhaseAt, Safe, SafeAttempt, SafeCell, SafeStage, SafeStatus, SafeView, WasSampled, caller_at, serial_at, stamp_on, value_then}
+use Rattle.stm_model.specs.Safe.{IsKept, EntriesAreCallers, EndingAt, EndsSo, HasBegun, HoldsNewest, KeepsLaw, PhaseAt, Safe, SafeAttempt, SafeCell, SafeStage, SafeStatus, SafeView, WasSampled, caller_at, serial_at, stamp_on, value_then, Sound}
 use Rattle.stm_model.specs.World.{IsCaller, Terms, View, World, attempt_of, cells_in, entry_of, with_view}
 use Rattle.stm_model.proofs.HeapLemmas.{over_other}
 use Rattle.stm_model.proofs.HistoryLemmas.{IsLegal-push, entry_after-append, entry_after_push, last-append, last_push, state-append, state_push}
@@ -21,7 +21,7 @@ use Rattle.opacity.proofs.LawLemmas.{KeepsLaw-push}
 use Rattle.opacity.proofs.Onward.{Continues, Onward, attempt_onward}
 use Rattle.opacity.proofs.Places.{attempt_else, attempt_here, replaced_else, replaced_here}
 use Rattle.opacity.proofs.Samples.{sampled_all}
-use Rattle.opacity.proofs.Stands.{Follows, Sound, serial_from, serial_to, sound_of}
+use Rattle.opacity.proofs.Stands.{Follows, serial_from, serial_to}
 use Rattle.opacity.proofs.Stores.{Stores, store_follows, store_safe, store_stores}
 use Rattle.opacity.proofs.Touch.{owner_is}
 use Rattle.opacity.proofs.Whole.{assemble}
@@ -91,10 +91,10 @@ module _ (lawful : List ℕ → Type 0) (may : List ℕ → List ℕ → Type 0)
   }
 
   all_current : All (IsCurrent terms.opening w.history (length w.history)) t.notes
-  all_current = rw at_end at (sampled_all w t clock terms.opening sampled.0 (safe.attempts p caller).notes)
+  all_current = rw at_end at (sampled_all w t clock terms.opening sampled.0 (safe.attempts p caller).sound.notes)
 
   legal_after : IsLegal terms.opening after.history
-  legal_after = IsLegal-push terms.opening w.history (entry_of t) safe.legal (safe.attempts p caller).entry all_current
+  legal_after = IsLegal-push terms.opening w.history (entry_of t) safe.legal (safe.attempts p caller).sound.entry all_current
 
   law_after : KeepsLaw lawful may terms.opening after.history
   law_after = KeepsLaw-push lawful may terms.opening w.history (entry_of t) safe.legal safe.law all_current owes
@@ -205,7 +205,7 @@ module _ (lawful : List ℕ → Type 0) (may : List ℕ → List ℕ → Type 0)
   -- ---- the caller
 
   owned_by : t.own ≡ p
-  owned_by = (safe.attempts p caller).own
+  owned_by = (safe.attempts p caller).sound.own
 
   entry_new : entry_after after.history (length w.history) ≡ entry_of t
   entry_new = entry_after_push w.history (entry_of t) (length w.history) refl
@@ -303,7 +303,7 @@ module _ (lawful : List ℕ → Type 0) (may : List ℕ → List ℕ → Type 0)
   unfolding EndingAt EndsSo
   own_safe =
       let lifted : SafeAttempt terms after p t = attempt_onward terms w after on p t (safe.attempts p caller) in
-      let sound : Sound terms after p certain = sound_of terms after p t lifted in
+      let sound : Sound terms after p certain = lifted.sound in
       let before : suc clock - 1 ≡ length w.history = omega (arith, at_end) in
       store_safe terms after p certain (0, 0) [] t.now.writes sound prepares tt
       (omega arith, omega (arith, grown, at_end), rw before entry_new) ([], refl)

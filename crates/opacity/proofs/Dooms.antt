@@ -11,14 +11,13 @@ use Rattle.meta_word.specs.declared.status.TxnStatus.{TxnStatus}
 use Rattle.stm_model.specs.Accesses.{doomed, next_at}
 use Rattle.stm_model.specs.After.{after_at, at, is_active, owner_status_loaded, owner_validated, acquire_again}
 use Rattle.stm_model.specs.Attempt.{Attempt, DoomOwner, OwnerMeta, OwnerStatus, Stage}
-use Rattle.stm_model.specs.Safe.{IsToWrite, Safe, SafeAttempt, SafeStage, WasTaken}
+use Rattle.stm_model.specs.Safe.{IsToWrite, Safe, SafeAttempt, SafeStage, WasTaken, Sound}
 use Rattle.stm_model.specs.World.{IsCaller, Terms, World, attempt_of, words_after, clock_after, found, replaced, seen_after, since_at, with_status, with_view}
 use Rattle.opacity.proofs.Acquires.{nobodys, found_now, acquired_again, to_acquire}
 use Rattle.opacity.proofs.Fits.{Fits, ending_is, phase_is, safe_seen, stage_is}
 use Rattle.opacity.proofs.Places.{replaced_else, replaced_here}
 use Rattle.opacity.proofs.ReadSteps.{knows_attempt}
 use Rattle.opacity.proofs.Shown.{conflict_shown, write_shown}
-use Rattle.opacity.proofs.Stands.{Sound, sound_of}
 use Rattle.opacity.proofs.Stepping.{stepped}
 use Rattle.opacity.proofs.Whole.{KeepsWord}
 use Rattle.opacity.proofs.OwnWords.{safe_others}
@@ -66,7 +65,7 @@ module _ (lawful : List ℕ → Type 0) (may : List ℕ → List ℕ → Type 0)
   own = safe.attempts p caller
 
   sound : Sound terms w p t
-  sound = sound_of terms w p t own
+  sound = own.sound
 
   pub keeps_owner_status : (cell value left : ℕ) (first : Meta) → t.stage ≡ OwnerStatus cell value left first → Safe lawful may terms (stepped w p (OwnerStatus cell value left first))
   unfolding next_at after_at words_after found seen_after since_at clock_after SafeStage owner_status_loaded
@@ -118,7 +117,7 @@ module _ (lawful : List ℕ → Type 0) (may : List ℕ → List ℕ → Type 0)
     goes = acquired_again terms w p t here tt (phase_is terms w p here own is) (ending_is terms w p here own is) sound cell value left true first second (conflict_shown t cell first second at_stage.2.another) at_stage.0
 
     other : first.owner ≢ p
-    other same = another_number t.own first.owner at_stage.1.another (same ∙ sym own.own)
+    other same = another_number t.own first.owner at_stage.1.another (same ∙ sym own.sound.own)
 
     dooms_one : same_status (w.status first.owner) status ≡ true → (q : ℕ) → KeepsWord (w.status q) (replaced w.status first.owner (doomed status) q)
     dooms_one same q = elim (cases_eq q first.owner) [

@@ -145,7 +145,7 @@ module _ (lawful : List ℕ → Type 0) (may : List ℕ → List ℕ → Type 0)
           let at_stage = stage_is terms w p (DoomOwner cell value left first second status) (safe.attempts p caller) is in
           let word : status ≡ w.status q = sym (status_same (w.status first.owner) status same) ∙ ap (λ (n : ℕ). w.status n) (sym own) in
           let other : first.owner ≢ t.own = another_number t.own first.owner at_stage.1.another in (
-            λ same_caller. other (sym own ∙ sym same_caller ∙ sym (safe.attempts p caller).own),
+            λ same_caller. other (sym own ∙ sym same_caller ∙ sym (safe.attempts p caller).sound.own),
             record {
               cell = cell;
               value = value;

@@ -8,12 +8,12 @@ use Rattle.stm_model.specs.After.{at, roll_on, rolled, run_all, stopped}
 use Rattle.stm_model.specs.Attempt.{cause_at, Attempt, Stage, Write, Close, Late, Prepare, RollBack, Stopped, held_at, has_prepared, unmarked_at, unstored_at, flies_at, holds, stamp_of}
 use Rattle.stm_model.specs.Handlers.{committing, preparing}
 use Rattle.stm_model.specs.Moves.{conclude, go_on, turn_to}
-use Rattle.stm_model.specs.Safe.{ClosingPhase, EndingAt, HasBegun, PhaseAt, SafeStage, EndsSo}
+use Rattle.stm_model.specs.Safe.{ClosingPhase, EndingAt, HasBegun, PhaseAt, SafeStage, EndsSo, Sound}
 use Rattle.stm_model.specs.World.{Terms, World}
 use Rattle.opacity.proofs.Shown.{Shows, to_shown}
 use Rattle.opacity.proofs.Cells.{AlikeAt}
 use Rattle.opacity.proofs.Fits.{Fits, IsOpen, goes_on, goes_on_same, open_facts, open_fits, open_fits_with}
-use Rattle.opacity.proofs.Stands.{kept_flying, Follows, Sound, placed}
+use Rattle.opacity.proofs.Stands.{kept_flying, Follows, placed}
 
 pub clash : (b : Bool) → b ≡ true → b ≡ false → ⊥
 clash b holds fails = cc

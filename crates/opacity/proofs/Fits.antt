@@ -6,12 +6,12 @@ use Rattle.stm_model.specs.declared.ending.Ending.{Ending}
 use Rattle.stm_model.specs.After.{at}
 use Rattle.stm_model.specs.Attempt.{Attempt, Stage, Write, Announce, Begin, ReleaseLevel, Mark, CommitClock, CommitNote, Decide, StoreValues, Release, RollBack, Close, Ended, cause_at, held_at, unmarked_at, unstored_at, flies_at}
 use Rattle.stm_model.specs.Heap.{writes_to}
-use Rattle.stm_model.specs.Safe.{EndingAt, HasBegun, PhaseAt, Safe, SafeAttempt, SafeStage, EndsSo}
+use Rattle.stm_model.specs.Safe.{EndingAt, HasBegun, PhaseAt, Safe, SafeAttempt, SafeStage, EndsSo, Sound}
 use Rattle.stm_model.specs.World.{IsCaller, Terms, View, World, attempt_of, with_view}
 use Rattle.opacity.proofs.Shown.{Shows}
 use Rattle.opacity.proofs.Cells.{AlikeAt, same_of}
 use Rattle.opacity.proofs.Places.{attempt_else, attempt_here}
-use Rattle.opacity.proofs.Stands.{kept_flying, IsPlain, plain_cause, placed_with, Follows, Knows, Sound, own_follows}
+use Rattle.opacity.proofs.Stands.{kept_flying, IsPlain, plain_cause, placed_with, Follows, Knows, own_follows}
 use Rattle.opacity.proofs.Whole.{safe_moved}
 
 -- An attempt goes on as another that holds each cell alike and is safe.

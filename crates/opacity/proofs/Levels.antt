@@ -9,10 +9,10 @@ use Rattle.stm_model.specs.After.{release_level_on, run_all}
 use Rattle.stm_model.specs.Attempt.{Attempt, Due, Write, ReleaseLevel, Ready, held_at, unmarked_at, unstored_at, holds, marks, stamp_of}
 use Rattle.stm_model.specs.CellsState.{Book, level_runs, outer, returned}
 use Rattle.stm_model.specs.Heap.{put, writes_to}
-use Rattle.stm_model.specs.Safe.{EndingAt, ReleasesLevel, HasBegun, LevelsNest, PhaseAt, SafeAttempt, SafeStage, EndsSo}
+use Rattle.stm_model.specs.Safe.{EndingAt, ReleasesLevel, HasBegun, LevelsNest, PhaseAt, SafeAttempt, SafeStage, EndsSo, Sound}
 use Rattle.stm_model.specs.World.{Terms, World, cells_in}
 use Rattle.stm_model.proofs.HeapLemmas.{AreWords-put, IsDistinct-put}
-use Rattle.opacity.proofs.Stands.{Sound, placed, sound_levels, sound_with}
+use Rattle.opacity.proofs.Stands.{placed, sound_levels, sound_with}
 use Rattle.opacity.proofs.Walks.{distinct_front, keys-put_new, keys-put_written}
 
 -- ---- levels

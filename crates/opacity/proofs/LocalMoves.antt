@@ -1,7 +1,6 @@
 -- Each local move keeps the world safe.
-use Rattle.std.proofs.Common.{IfSome, ◌≡◌, ℕ, suc, ◌<◌, ◌≤◌, ◌^◌, ◌⊎◌, Option, List, [], ◌∷◌, ◌++◌, length, refl, sym, ap, ◌∙◌, arith, inl, inr, subst}
+use Rattle.std.proofs.Common.{IfSome, ◌≡◌, ℕ, suc, ◌<◌, ◌≤◌, ◌⊎◌, Option, List, [], ◌∷◌, ◌++◌, length, refl, sym, ap, ◌∙◌, arith, inl, inr, subst}
 use Rattle.std.specs.List.{IsDistinct}
-use Rattle.std.proofs.lemmas.List.Elements.{All-nil}
 use Rattle.meta_word.specs.declared.status.Phase.{Phase}
 use Rattle.meta_word.specs.declared.status.Phase.TheVariants.{Active, Doomed, Idle}
 use Rattle.meta_word.specs.declared.status.TheConstants.{MAX_SERIAL}
@@ -11,9 +10,8 @@ use Rattle.stm_model.specs.declared.settings.Settings.{Settings}
 use Rattle.stm_model.specs.After.{at}
 use Rattle.stm_model.specs.Attempt.{cause_at, no_attempt, Attempt, Announce, Begin, Due, Ended, Late, Ready, Ring, Run, Stage, Stopped, held_at}
 use Rattle.stm_model.specs.Evidence.{Evidence}
-use Rattle.stm_model.specs.History.{IsCurrent}
 use Rattle.stm_model.specs.Moves.{Forgets, Begins, Does, OutOfMemory, May, Move, EndsLate, Takes, AwaitsAskAt, begun, did_first, moved, late_over_at}
-use Rattle.stm_model.specs.Safe.{NamesNote, IsKept, EndingAt, HasBegun, PhaseAt, Safe, SafeAttempt, SafeStage, SerialAt, EndsSo, caller_at, serial_at}
+use Rattle.stm_model.specs.Safe.{NamesNote, IsKept, EndingAt, HasBegun, PhaseAt, Safe, SafeAttempt, SafeStage, SerialAt, EndsSo, caller_at, serial_at, Sound}
 use Rattle.stm_model.specs.World.{IsCaller, Terms, World, attempt_of, cells_in, move, with_view}
 use Rattle.opacity.proofs.Shown.{Shows, if_shown, if_shows}
 use Rattle.opacity.proofs.Asks.{asked_fits}
@@ -21,7 +19,7 @@ use Rattle.opacity.proofs.Cells.{AlikeAt, alike_refl, same_of}
 use Rattle.opacity.proofs.Ends.{gone_on, rolled_open, stopped_open}
 use Rattle.opacity.proofs.Fits.{Fits, IsOpen, phase_is, safe_local}
 use Rattle.opacity.proofs.Places.{attempt_else, attempt_here}
-use Rattle.opacity.proofs.Stands.{SameGround, Sound, blank_sound, sound_of, stage_same, stands_safe, told_same}
+use Rattle.opacity.proofs.Stands.{SameGround, blank_sound, stage_same, told_same}
 use Rattle.opacity.proofs.Whole.{OwnSafe, safe_moved}
 
 waits_open : (stage : Stage) → AwaitsAskAt stage → IsOpen stage
@@ -62,32 +60,42 @@ module _ (terms : Terms) (w : World) (p : ℕ) (t : Attempt) (safe : SafeAttempt
       kept = λ kept. rw (stage, ending) at kept;
       undecided = λ kept undecided. rw ending at undecided;
     };
-    safe = stands_safe terms w p u sound (rw (stage, ending, phase) safe.phase) (rw (stage, ending) safe.ending)
-        (subst (λ (e : Option Ending). EndsSo w u e) (sym ending) (told_same terms w p t u same t.ending safe.ends_so))
-        (if_shown u (cause_at u.stage) (rw (stage, same.own, same.settings, same.notes) (if_shows t (cause_at t.stage) safe.refused)))
-        (subst (λ (s : Stage). SafeStage terms w u s) (sym stage) (stage_same terms w p t u same t.stage begun_here safe.stage));
+    safe = record {
+      sound = sound;
+      phase = rw (stage, ending, phase) safe.phase;
+      ending = rw (stage, ending) safe.ending;
+      ends_so = subst (λ (e : Option Ending). EndsSo w u e) (sym ending) (told_same terms w p t u same t.ending safe.ends_so);
+      refused = if_shown u (cause_at u.stage) (rw (stage, same.own, same.settings, same.notes) (if_shows t (cause_at t.stage) safe.refused));
+      stage = subst (λ (s : Stage). SafeStage terms w u s) (sym stage) (stage_same terms w p t u same t.stage begun_here safe.stage);
+    };
   }
 
   did_fits : (due : List Due) → Fits terms w p t (did_first t due)
-  did_fits [] = same_ground t (record { own = refl; serial = refl; settings = refl; prefix = refl; notes = refl; writes = refl; saved = refl }) refl refl refl (λ cell. alike_refl cell t) (sound_of terms w p t safe)
+  did_fits [] = same_ground t (record { own = refl; serial = refl; settings = refl; prefix = refl; notes = refl; writes = refl; saved = refl }) refl refl refl (λ cell. alike_refl cell t) safe.sound
   did_fits (Run phase token ∷ dues) =
       same_ground (record t { now = record t.now { runs = t.now.runs ++ (phase, token) ∷ [] }; due = dues })
       (record { own = refl; serial = refl; settings = refl; prefix = refl; notes = refl; writes = refl; saved = refl }) refl refl refl
       (λ cell. record { held = refl; marked = λ h. refl; unstored = λ h. refl; stamp = λ h. refl })
-      (sound_of terms w p t safe)
+      safe.sound
   did_fits (Ring cell ∷ dues) =
       same_ground (record t { rings = t.rings ++ cell ∷ []; due = dues })
       (record { own = refl; serial = refl; settings = refl; prefix = refl; notes = refl; writes = refl; saved = refl }) refl refl refl
       (λ cell. record { held = refl; marked = λ h. refl; unstored = λ h. refl; stamp = λ h. refl })
-      (sound_of terms w p t safe)
+      safe.sound
 
 -- ---- the next attempt
 
 module _ (terms : Terms) (w : World) (p : ℕ) (settings : Settings) where
   begun_safe : (t : Attempt) → t.own ≡ p → settings.clock ≡ terms.limit → t.serial < MAX_SERIAL → SafeAttempt terms w p (begun t settings)
   unfolding SafeStage PhaseAt EndingAt EndsSo IsDistinct cause_at
-  begun_safe t own limit room =
-      stands_safe terms w p (begun t settings) (rw own (blank_sound terms w p (suc t.serial) settings.clock (omega arith) limit)) refl refl tt tt (record { notes = refl; now = refl; saved = refl; due = refl })
+  begun_safe t own limit room = record {
+    sound = rw own (blank_sound terms w p (suc t.serial) settings.clock (omega arith) limit);
+    phase = refl;
+    ending = refl;
+    ends_so = tt;
+    refused = tt;
+    stage = record { notes = refl; now = refl; saved = refl; due = refl };
+  }
 
   begun_alike : (t : Attempt) (cell : ℕ) → AlikeAt cell (begun t settings) (at t Ended)
   unfolding held_at
@@ -104,7 +112,7 @@ module _ (lawful : List ℕ → Type 0) (may : List ℕ → List ℕ → Type 0)
       let serial : t.serial ≡ (w.status p).serial = subst (λ (stage : Stage). SerialAt stage t.serial (w.status p).serial) is status.serial in
       let idle : t.phase ≡ Idle = phase_is terms w p Ended (safe.attempts p caller) is in
       record {
-        attempt = begun_safe terms w p settings t (safe.attempts p caller).own limit room;
+        attempt = begun_safe terms w p settings t (safe.attempts p caller).sound.own limit room;
         view = record { seen = view.seen; since = view.since; clock = view.clock; fresh = λ begun flies. absurd begun };
         status = record { serial = ap suc serial; phase = rest idle status.phase };
         seen = omega arith;
@@ -143,17 +151,9 @@ module _ (lawful : List ℕ → Type 0) (may : List ℕ → List ℕ → Type 0)
   forgotten_safe : SafeAttempt terms w p forgotten
   unfolding SafeStage PhaseAt EndingAt EndsSo IsDistinct cause_at
   forgotten_safe =
-      let own = safe.attempts p caller in
+      let sound = (safe.attempts p caller).sound in
       record {
-        own = own.own;
-        serial = own.serial;
-        limit = own.limit;
-        prefix = omega arith;
-        notes = All-nil (IsCurrent terms.opening w.history 0);
-        entry = record { reads_apart = tt; writes_apart = tt; words = All-nil (λ word. word < 2 ^ 64) };
-        noted_cells = All-nil (λ note. note.addr.0 < cells_in terms);
-        written_cells = All-nil (λ cell. cell < cells_in terms);
-        levels = tt;
+        sound = rw sound.own (blank_sound terms w p (attempt_of w p).serial (attempt_of w p).settings.clock sound.serial sound.limit);
         phase = refl;
         ending = tt;
         ends_so = tt;
@@ -191,17 +191,17 @@ module _ (lawful : List ℕ → Type 0) (may : List ℕ → List ℕ → Type 0)
   move_safe (Takes ask) able =
       let t = attempt_of w p in
       let own = safe.attempts p caller in
-      safe_local lawful may terms w p safe caller t.stage refl _ (asked_fits terms w p t t.stage refl able.0.stands own.phase own.ending (sound_of terms w p t own) (if_shows t (cause_at t.stage) own.refused) ask able.1)
+      safe_local lawful may terms w p safe caller t.stage refl _ (asked_fits terms w p t t.stage refl able.0.stands own.phase own.ending own.sound (if_shows t (cause_at t.stage) own.refused) ask able.1)
   move_safe (OutOfMemory ask) able =
       let t = attempt_of w p in
       let own = safe.attempts p caller in
-      safe_local lawful may terms w p safe caller t.stage refl _ (stopped_open terms w p t t.stage (waits_open t.stage able.0.stands) own.phase own.ending (sound_of terms w p t own) Memory (tt, tt))
+      safe_local lawful may terms w p safe caller t.stage refl _ (stopped_open terms w p t t.stage (waits_open t.stage able.0.stands) own.phase own.ending own.sound Memory (tt, tt))
   move_safe Does able =
       let t = attempt_of w p in
       safe_local lawful may terms w p safe caller t.stage refl _ (did_fits terms w p t (safe.attempts p caller) able t.due)
   move_safe EndsLate able =
       let t = attempt_of w p in
       let own = safe.attempts p caller in
-      safe_local lawful may terms w p safe caller t.stage refl _ (returned_fits terms w p t t.stage able.0.stands own.phase own.ending (sound_of terms w p t own) (if_shows t (cause_at t.stage) own.refused))
+      safe_local lawful may terms w p safe caller t.stage refl _ (returned_fits terms w p t t.stage able.0.stands own.phase own.ending own.sound (if_shows t (cause_at t.stage) own.refused))
   move_safe Forgets able = forgets able.0
   move_safe (Begins settings) able = begins settings able

@@ -34,7 +34,7 @@ module _ (lawful : List ℕ → Type 0) (may : List ℕ → List ℕ → Type 0)
     where
       go : ((w.meta cell).owner ≡ 0) ⊎ ((w.meta cell).owner ≢ 0) → ((w.meta cell).owner ≡ p) ⊎ ((w.meta cell).owner ≢ p) → ((w.meta cell).owner ≡ 0) ⊎ ((w.meta cell).owner ≡ t.own)
       go (inl none) same = inl none
-      go (inr some) (inl same) = inr (same ∙ sym own.own)
+      go (inr some) (inl same) = inr (same ∙ sym own.sound.own)
       go (inr some) (inr other) =
           let owner = (w.meta cell).owner in
           let free : holds (attempt_of w owner) cell ≡ false = ended_holds (attempt_of w owner) cell (lone owner other) in
@@ -54,7 +54,7 @@ module _ (lawful : List ℕ → Type 0) (may : List ℕ → List ℕ → Type 0)
   -- a cell that no decided writer owns has its last writer's version
   newest : (cell : ℕ) → cell < cells_in terms → stamp_of t ≡ 0 → (w.meta cell).version ≡ last w.history (length w.history) cell
   newest cell within undecided =
-      let quiet : changing_by_another p (w.meta cell) ≡ false = rw own.own at (not_changing cell within) in
+      let quiet : changing_by_another p (w.meta cell) ≡ false = rw own.sound.own at (not_changing cell within) in
       let none : stamp_on w cell ≡ 0 = not_written lawful may terms w safe p cell within undecided quiet in
       ((safe.cells cell within).settled none).version
 

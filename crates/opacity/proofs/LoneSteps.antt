@@ -82,8 +82,8 @@ module _ (lawful : List ℕ → Type 0) (may : List ℕ → List ℕ → Type 0)
   by_note cell value left tried is None noted = acquires cell value left tried is
   by_note cell value left tried is (Some note) noted =
       let here : t.prefix ≡ n = solo_is (AcquireMeta cell value left tried) is in
-      let current = found_note (IsCurrent terms.opening w.history t.prefix) t.notes cell note own.notes noted in
-      let within = found_note (λ each. each.addr.0 < cells_in terms) t.notes cell note own.noted_cells noted in
+      let current = found_note (IsCurrent terms.opening w.history t.prefix) t.notes cell note own.sound.notes noted in
+      let within = found_note (λ each. each.addr.0 < cells_in terms) t.notes cell note own.sound.noted_cells noted in
       let version = note_now lawful may terms w p safe caller lone note within.0 (no_stamp lawful may terms w p safe caller (AcquireMeta cell value left tried) tt is) here current.0 in
       let same : note.version ≡ (w.meta cell).version = sym version ∙ ap (λ (c : ℕ). (w.meta c).version) current.1 in
       chosen Here (nat_eq note.version (w.meta cell).version) _ _ (eq-eqb note.version (w.meta cell).version same) (acquires cell value left tried is)
@@ -95,8 +95,8 @@ module _ (lawful : List ℕ → Type 0) (may : List ℕ → List ℕ → Type 0)
       let sampled : WasSampled w t clock (note ∷ behind) = at_stage.1 in
       let solo : (t.prefix ≡ n) × (clock ≡ n) = solo_is (CommitNote lost clock note behind) is in
       let none = ending_is terms w p (CommitNote lost clock note behind) own is in
-      let within : note.addr.0 < cells_in terms = all_at (λ each. each.addr.0 < cells_in terms) sampled.checked behind t.notes note sampled.notes own.noted_cells in
-      let current : IsCurrent terms.opening w.history t.prefix note = all_at (IsCurrent terms.opening w.history t.prefix) sampled.checked behind t.notes note sampled.notes own.notes in
+      let within : note.addr.0 < cells_in terms = all_at (λ each. each.addr.0 < cells_in terms) sampled.checked behind t.notes note sampled.notes own.sound.noted_cells in
+      let current : IsCurrent terms.opening w.history t.prefix note = all_at (IsCurrent terms.opening w.history t.prefix) sampled.checked behind t.notes note sampled.notes own.sound.notes in
       let version = note_now lawful may terms w p safe caller lone note within (rw none refl) solo.0 current in
       chosen Here (still_has t.own note.version (w.meta note.addr.0)) _ _ (still lawful may terms w p safe caller lone note.addr.0 note.version within version) (goes_validate n w.meta t calm solo.0 lost clock behind solo.1)
 
@@ -108,7 +108,7 @@ module _ (lawful : List ℕ → Type 0) (may : List ℕ → List ℕ → Type 0)
           → GoesAlone (length (if b then with_status w t.own (record { serial = t.serial; phase = Preparing }) else w).history) (if b then with_status w t.own (record { serial = t.serial; phase = Preparing }) else w).meta
           (if b then mark_on (record t { phase = Preparing; due = run_all (preparing t.now.hooks) }) t.now.writes else rolled t (Doomed (w.status t.own)))
       go true same = goes_mark n w.meta (record t { phase = Preparing; due = run_all (preparing t.now.hooks) }) calm (solo_is Prepare is) t.now.writes
-      go false lost = absurd (word (rw own.own at (doomed_word lawful may terms w p safe caller is lost)))
+      go false lost = absurd (word (rw own.sound.own at (doomed_word lawful may terms w p safe caller is lost)))
 
   decides : (lost clock : ℕ) → t.stage ≡ Decide lost clock → Then (Decide lost clock) (next_at t (Decide lost clock))
   unfolding next_at words_after found after_at decided EndsByItself

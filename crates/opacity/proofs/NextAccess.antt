@@ -33,7 +33,7 @@ module _ (lawful : List ℕ → Type 0) (may : List ℕ → List ℕ → Type 0)
 
   -- its own number is a caller's
   own_caller : IsCaller terms t.own
-  own_caller = subst (λ (n : ℕ). IsCaller terms n) (sym (safe.attempts p caller).own) caller
+  own_caller = subst (λ (n : ℕ). IsCaller terms n) (sym (safe.attempts p caller).sound.own) caller
 
   -- a version has room
   version_fits : (cell : ℕ) → cell < cells_in terms → (w.meta cell).version ≤ MAX_VERSION
@@ -48,20 +48,20 @@ module _ (lawful : List ℕ → Type 0) (may : List ℕ → List ℕ → Type 0)
 
   walked : (write : Write) (behind : List Write) → EndsWith t.now.writes (write ∷ behind) → write.0 < cells_in terms
   walked write behind ends =
-      written_cell lawful may terms w p safe caller write.0 (next_of t.now.writes write behind (safe.attempts p caller).entry.writes_apart ends).there
+      written_cell lawful may terms w p safe caller write.0 (next_of t.now.writes write behind (safe.attempts p caller).sound.entry.writes_apart ends).there
 
   given : (kept : List Write) (write : Write) (behind : List Write) → ReleasesLevel t kept (write ∷ behind) → write.0 < cells_in terms
   given kept write behind gives = written_cell lawful may terms w p safe caller write.0 (out_there t kept write behind gives)
 
   noted : (checked behind : List Note) (note : Note) → t.notes ≡ checked ++ note ∷ behind → note.addr.0 < cells_in terms
-  noted checked behind note is = all_at (λ each. each.addr.0 < cells_in terms) checked behind t.notes note is (safe.attempts p caller).noted_cells
+  noted checked behind note is = all_at (λ each. each.addr.0 < cells_in terms) checked behind t.notes note is (safe.attempts p caller).sound.noted_cells
 
   taken : (cell : ℕ) (meta : Meta) → WasTaken terms w t cell meta → IsCaller terms meta.owner
   taken cell meta found = (another_above t.own meta.owner found.another, found.found.owner)
 
   pub fits_at : (stage : Stage) → SafeStage terms w t stage → EndingAt stage t.ending → IfSome (next_at t stage) (FitsTable terms)
   unfolding next_at SafeStage IsOfTable word_of access_of BringsWords FieldsFit
-  fits_at Announce is ending = record { word = own_caller; fields = λ brings. record { serial = (safe.attempts p caller).serial } }
+  fits_at Announce is ending = record { word = own_caller; fields = λ brings. record { serial = (safe.attempts p caller).sound.serial } }
   fits_at Begin is ending = record { word = tt; fields = λ brings. tt }
   fits_at (ReadMeta cell left) is ending = record { word = is.in_range; fields = λ brings. tt }
   fits_at (ExtendClock cell left first) is ending = record { word = tt; fields = λ brings. tt }
@@ -83,7 +83,7 @@ module _ (lawful : List ℕ → Type 0) (may : List ℕ → List ℕ → Type 0)
   }
   fits_at (ReleaseLevel kept write behind) is ending = record { word = given kept write behind is; fields = λ brings. tt }
   fits_at Prepare is ending =
-      let serial = (safe.attempts p caller).serial in
+      let serial = (safe.attempts p caller).sound.serial in
       record { word = own_caller; fields = λ brings. (record { serial = serial }, record { serial = serial }) }
   fits_at (Mark write behind) is ending = record { word = walked write behind is; fields = λ brings. tt }
   fits_at (CommitClock lost) is ending = record { word = tt; fields = λ brings. tt }
@@ -97,7 +97,7 @@ module _ (lawful : List ℕ → Type 0) (may : List ℕ → List ℕ → Type 0)
         fields = λ brings. record { owner = omega arith; version = omega (arith, stamped.high, safe.clock, safe.limit, safe.fits.limit) };
       }
   fits_at (RollBack write behind) is ending = record { word = walked write behind is; fields = λ brings. tt }
-  fits_at Close is ending = record { word = own_caller; fields = λ brings. record { serial = (safe.attempts p caller).serial } }
+  fits_at Close is ending = record { word = own_caller; fields = λ brings. record { serial = (safe.attempts p caller).sound.serial } }
   fits_at stage is ending = tt
 
   fits_due : (dues : List Due) → IfSome (next_at t t.stage) (FitsTable terms) → IfSome (unless_due dues (next_at t t.stage)) (FitsTable terms)

@@ -8,7 +8,7 @@ use Rattle.stm_model.specs.declared.ending.Ending.TheVariants.{Committed, Read, 
 use Rattle.stm_model.specs.declared.note.Note.{Note}
 use Rattle.stm_model.specs.Attempt.{Attempt, Stage, Announce, Begin, ReadMeta, ExtendClock, ExtendNote, ReadValue, Validate, AcquireMeta, Acquire, OwnerStatus, OwnerMeta, DoomOwner, ReleaseLevel, Prepare, Mark, CommitClock, CommitNote, Decide, StoreValues, Release, RollBack}
 use Rattle.stm_model.specs.History.{IsCurrent, entry_after, last, state}
-use Rattle.stm_model.specs.Safe.{SafeAttempt, SafeStage, EndsSo, WasFetched, WasFound, WasTaken, WasSampled, WasSeen, stamp_on}
+use Rattle.stm_model.specs.Safe.{SafeAttempt, SafeStage, Sound, EndsSo, WasFetched, WasFound, WasTaken, WasSampled, WasSeen, stamp_on}
 use Rattle.stm_model.specs.World.{Terms, World, cells_in}
 
 -- The history goes on.
@@ -108,20 +108,25 @@ module _ (terms : Terms) (w v : World) (on : Onward terms w v) where
   told_onward t (Some (Read prefix)) told = told
   told_onward t (Some (Rolled cause prefix)) told = told
 
+  sound_onward : (p : ℕ) (t : Attempt) → Sound terms w p t → Sound terms v p t
+  sound_onward p t sound = record {
+    own = sound.own;
+    serial = sound.serial;
+    limit = sound.limit;
+    prefix = omega (arith, sound.prefix, on.goes.longer);
+    notes = all_onward t.prefix t.notes sound.prefix sound.notes;
+    entry = sound.entry;
+    noted_cells = sound.noted_cells;
+    written_cells = sound.written_cells;
+    levels = sound.levels;
+  }
+
   pub attempt_onward : (p : ℕ) (t : Attempt) → SafeAttempt terms w p t → SafeAttempt terms v p t
   attempt_onward p t safe = record {
-    own = safe.own;
-    serial = safe.serial;
-    limit = safe.limit;
-    prefix = omega (arith, safe.prefix, on.goes.longer);
-    notes = all_onward t.prefix t.notes safe.prefix safe.notes;
-    entry = safe.entry;
-    noted_cells = safe.noted_cells;
-    written_cells = safe.written_cells;
-    levels = safe.levels;
+    sound = sound_onward p t safe.sound;
     phase = safe.phase;
     ending = safe.ending;
     ends_so = told_onward t t.ending safe.ends_so;
     refused = safe.refused;
-    stage = stage_onward t t.stage safe.prefix safe.stage;
+    stage = stage_onward t t.stage safe.sound.prefix safe.stage;
   }

@@ -8,7 +8,7 @@ use Rattle.stm_model.specs.Attempt.{cause_at, held_at}
 use Rattle.stm_model.specs.History.{IsEntry, state, last}
 use Rattle.stm_model.specs.Safe.{Safe, SafeAttempt, SafeCell, SafeStage, TermsFit, PhaseAt, EndingAt, EndsSo, SerialAt}
 use Rattle.stm_model.specs.World.{Terms, attempt_of, opened}
-use Rattle.opacity.proofs.Stands.{blank_sound, stands_safe}
+use Rattle.opacity.proofs.Stands.{blank_sound}
 
 nobody_holds : (p : ℕ) → 0 < p → false ≡ nat_eq p 0
 nobody_holds p above = grind (arith, nat_tests)
@@ -27,7 +27,7 @@ module _ (terms : Terms) (settings : Settings) where
   unfolding SafeStage PhaseAt EndingAt EndsSo IsDistinct cause_at
   attempt_opened limit p =
       let w = opened terms settings in
-      stands_safe terms w p (attempt_of w p) (blank_sound terms w p 0 settings.clock (omega arith) limit) refl tt tt tt tt
+      record { sound = blank_sound terms w p 0 settings.clock (omega arith) limit; phase = refl; ending = tt; ends_so = tt; refused = tt; stage = tt }
 
   pub opened_safe : (lawful : List ℕ → Type 0) (may : List ℕ → List ℕ → Type 0) → TermsFit terms → settings.clock ≡ terms.limit → lawful terms.opening
       → Safe lawful may terms (opened terms settings)

@@ -54,7 +54,7 @@ module _ (lawful : List ℕ → Type 0) (may : List ℕ → List ℕ → Type 0)
 
   own_is : t.own ≡ p
   unfolding world_of
-  own_is = (safe.attempts p caller).own
+  own_is = (safe.attempts p caller).sound.own
 
   -- What the status word and the lists say is the attempt's entry.
   pub entry_is : (reads : List Note) (writes : List Write) → reads ≡ t.notes → writes ≡ t.now.writes

@@ -14,7 +14,7 @@ use Rattle.stm_model.specs.After.{after_at, at, extend_on, extended, read_again,
 use Rattle.stm_model.specs.Attempt.{Attempt, ExtendNote, ReadValue, ReadMeta, Ready, ExtendClock, Validate, Stage, stamp_of}
 use Rattle.stm_model.specs.Evidence.{Evidence}
 use Rattle.stm_model.specs.History.{IsCurrent}
-use Rattle.stm_model.specs.Safe.{NamesNote, EndingAt, IsToRead, PhaseAt, Safe, SafeAttempt, SafeCell, SafeStage, WasFetched, WasSampled, WasSeen, stamp_on}
+use Rattle.stm_model.specs.Safe.{NamesNote, EndingAt, IsToRead, PhaseAt, Safe, SafeAttempt, SafeCell, SafeStage, WasFetched, WasSampled, WasSeen, stamp_on, Sound}
 use Rattle.stm_model.specs.World.{IsCaller, Terms, View, World, attempt_of, cells_in, words_after, clock_after, found, seen_after, since_at}
 use Rattle.stm_model.proofs.EvidenceLemmas.{has_moved, is_stale}
 use Rattle.stm_model.proofs.HistoryLemmas.{last_below}
@@ -22,7 +22,7 @@ use Rattle.opacity.proofs.Ends.{stopped_open}
 use Rattle.opacity.proofs.Fits.{Fits, IsOpen, ending_is, goes_on, goes_on_same, open_facts, open_fits, phase_is, safe_seen, stage_is}
 use Rattle.opacity.proofs.Samples.{fetched_now, not_written, noted_now, sampled_all, sampled_more, sampled_start, still_current}
 use Rattle.opacity.proofs.Shown.{all_at, Shows, names_checked}
-use Rattle.opacity.proofs.Stands.{IsPlain, Knows, Sound, sound_at, sound_of}
+use Rattle.opacity.proofs.Stands.{IsPlain, Knows, sound_at}
 use Rattle.opacity.proofs.Stepping.{stepped}
 use Rattle.opacity.proofs.Walks.{among, distinct_push}
 
@@ -107,7 +107,7 @@ module _ (lawful : List ℕ → Type 0) (may : List ℕ → List ℕ → Type 0)
   own = safe.attempts p caller
 
   sound : Sound terms w p t
-  sound = sound_of terms w p t own
+  sound = own.sound
 
   pub knows_clock : (x : View) → x.seen ≡ w.clock → x.since ≡ (w.view p).since → x.clock ≡ w.clock → Knows w (w.view p) x
   knows_clock x seen since clock =
@@ -137,7 +137,7 @@ module _ (lawful : List ℕ → Type 0) (may : List ℕ → List ℕ → Type 0)
       let low : first.version ≤ w.clock = omega (arith, at_stage.1.behind, version_length terms w cell (safe.cells cell at_stage.0.in_range), safe.clock) in
       safe_seen lawful may terms w p safe caller stage is _
       (extends terms w p t stage tt (phase_is terms w p stage own is) (ending_is terms w p stage own is) sound cell left first w.clock t.notes at_stage.0 at_stage.1 low
-      (sampled_start w t w.clock (omega (arith, own.prefix, safe.clock)) (omega (arith, safe.clock))))
+      (sampled_start w t w.clock (omega (arith, own.sound.prefix, safe.clock)) (omega (arith, safe.clock))))
       (knows_clock _ refl refl refl)
 
   pub keeps_extend_note : (cell left : ℕ) (first : Meta) (clock : ℕ) (note : Note) (behind : List Note) → t.stage ≡ ExtendNote cell left first clock note behind → Safe lawful may terms (stepped w p (ExtendNote cell left first clock note behind))
@@ -155,9 +155,9 @@ module _ (lawful : List ℕ → Type 0) (may : List ℕ → List ℕ → Type 0)
           → Fits terms w p (at t stage) (if b then extend_on t cell left first clock behind else stopped t (Stale note.addr note.version (w.meta note.addr.0)))
       go true same =
           let tests = and_parts (nat_eq (w.meta note.addr.0).version note.version) (not (changing_by_another t.own (w.meta note.addr.0))) same in
-          let within : note.addr.0 < cells_in terms = all_at (λ each. each.addr.0 < cells_in terms) at_stage.3.checked behind t.notes note at_stage.3.notes own.noted_cells in
-          let current : IsCurrent terms.opening w.history t.prefix note = all_at (IsCurrent terms.opening w.history t.prefix) at_stage.3.checked behind t.notes note at_stage.3.notes own.notes in
-          let quiet : changing_by_another p (w.meta note.addr.0) ≡ false = rw own.own at (not-true (changing_by_another t.own (w.meta note.addr.0)) tests.1) in
+          let within : note.addr.0 < cells_in terms = all_at (λ each. each.addr.0 < cells_in terms) at_stage.3.checked behind t.notes note at_stage.3.notes own.sound.noted_cells in
+          let current : IsCurrent terms.opening w.history t.prefix note = all_at (IsCurrent terms.opening w.history t.prefix) at_stage.3.checked behind t.notes note at_stage.3.notes own.sound.notes in
+          let quiet : changing_by_another p (w.meta note.addr.0) ≡ false = rw own.sound.own at (not-true (changing_by_another t.own (w.meta note.addr.0)) tests.1) in
           let none : stamp_on w note.addr.0 ≡ 0 = not_written lawful may terms w safe p note.addr.0 within (no_stamp stage tt is) quiet in
           let still = still_current lawful may terms w safe t.prefix clock note within none (eqb-true _ _ tests.0) current at_stage.3.low at_stage.3.high in
           extends terms w p t stage tt (phase_is terms w p stage own is) (ending_is terms w p stage own is) sound cell left first clock behind at_stage.0 at_stage.1 at_stage.2
@@ -195,10 +195,10 @@ module _ (lawful : List ℕ → Type 0) (may : List ℕ → List ℕ → Type 0)
           → Fits terms w p (at t stage) (if b then answer_with (record t { notes = t.notes ++ record { addr = addr_of cell; version = first.version; value = value } ∷ [] }) value else read_again t cell left (Moved (addr_of cell) first (w.meta cell)))
       go true same =
           let tests = and_parts (nat_eq (w.meta cell).version first.version) (not (changing_by_another t.own (w.meta cell))) same in
-          let quiet : changing_by_another p (w.meta cell) ≡ false = rw own.own at (not-true (changing_by_another t.own (w.meta cell)) tests.1) in
+          let quiet : changing_by_another p (w.meta cell) ≡ false = rw own.sound.own at (not-true (changing_by_another t.own (w.meta cell)) tests.1) in
           let none : stamp_on w cell ≡ 0 = not_written lawful may terms w safe p cell at_stage.0.in_range (no_stamp stage tt is) quiet in
           let current : IsCurrent terms.opening w.history t.prefix note =
-          noted_now lawful may terms w safe cell first.version value t.prefix note at_stage.0.in_range none (eqb-true _ _ tests.0) at_stage.2 own.prefix at_stage.3 refl refl refl in
+          noted_now lawful may terms w safe cell first.version value t.prefix note at_stage.0.in_range none (eqb-true _ _ tests.0) at_stage.2 own.sound.prefix at_stage.3 refl refl refl in
           open_fits terms w p t (record t { notes = t.notes ++ note ∷ [] }) stage (Ready (Some value)) tt tt tt (phase_is terms w p stage own is) (ending_is terms w p stage own is)
           (goes_on terms w p t _ refl refl refl refl refl
           (noted_sound terms w p t stage tt (phase_is terms w p stage own is) (ending_is terms w p stage own is) sound note current at_stage.0.in_range at_stage.0.unnoted))

@@ -6,13 +6,13 @@ use Rattle.stm_model.specs.Accesses.{next_at, released}
 use Rattle.stm_model.specs.After.{after_at, at, release_on, ring_if}
 use Rattle.stm_model.specs.Attempt.{flies_at, Attempt, Close, Due, Release, Stage, Write, held_at, unmarked_at, unstored_at, holds, stamp_of}
 use Rattle.stm_model.specs.Heap.{writes_to}
-use Rattle.stm_model.specs.Safe.{EndingAt, EndsSo, EndsWith, HasBegun, IsBeingWritten, PhaseAt, Safe, SafeAttempt, SafeStage, stamp_on, value_then}
+use Rattle.stm_model.specs.Safe.{EndingAt, EndsSo, EndsWith, HasBegun, IsBeingWritten, PhaseAt, Safe, SafeAttempt, SafeStage, stamp_on, value_then, Sound}
 use Rattle.stm_model.specs.World.{IsCaller, Terms, World, attempt_of, cells_in, words_after, clock_after, found, seen_after, since_at}
 use Rattle.stm_model.proofs.HistoryLemmas.{last_below, same_since_last}
 use Rattle.opacity.proofs.Cells.{AlikeAt}
 use Rattle.opacity.proofs.Ends.{clash}
 use Rattle.opacity.proofs.Fits.{ending_is, phase_is, stage_is}
-use Rattle.opacity.proofs.Stands.{Follows, SameGround, Sound, follows_at, placed, sound_of, told_same}
+use Rattle.opacity.proofs.Stands.{Follows, SameGround, follows_at, placed, told_same}
 use Rattle.opacity.proofs.Stepping.{IsStamped, release_close, release_phase, stamped_release, stepped}
 use Rattle.opacity.proofs.Touch.{freed, owner_is, safe_touched}
 use Rattle.opacity.proofs.Walks.{IsNext, all_among, ends_more, next_of, writes_to_else, writes_to_here}
@@ -58,7 +58,7 @@ module _ (lawful : List ℕ → Type 0) (may : List ℕ → List ℕ → Type 0)
   held_here stage is cell there = subst (λ (s : Stage). writes_to (held_at (attempt_of w p).now.writes s) cell ≡ true) (sym is) there
 
   pub written_cell : (cell : ℕ) → writes_to (attempt_of w p).now.writes cell ≡ true → cell < cells_in terms
-  written_cell cell there = all_among (λ each. each < cells_in terms) (keys_of (attempt_of w p).now.writes) cell (safe.attempts p caller).written_cells there
+  written_cell cell there = all_among (λ each. each < cells_in terms) (keys_of (attempt_of w p).now.writes) cell (safe.attempts p caller).sound.written_cells there
 
   pub keeps_release : (write : Write) (behind : List Write) → (attempt_of w p).stage ≡ Release write behind → Safe lawful may terms (stepped w p (Release write behind))
   unfolding next_at after_at words_after found seen_after since_at clock_after held_at unstored_at SafeStage PhaseAt
@@ -68,7 +68,7 @@ module _ (lawful : List ℕ → Type 0) (may : List ℕ → List ℕ → Type 0)
       let stage = Release write behind in
       let cell = write.0 in
       let ends : EndsWith t.now.writes (write ∷ behind) = stage_is terms w p stage own is in
-      let next : IsNext t.now.writes write behind = next_of t.now.writes write behind own.entry.writes_apart ends in
+      let next : IsNext t.now.writes write behind = next_of t.now.writes write behind own.sound.entry.writes_apart ends in
       let ending : EndingAt stage t.ending = ending_is terms w p stage own is in
       let stamped : IsStamped w t = stamped_release w t write behind ending own.ends_so in
       let within : cell < cells_in terms = written_cell cell next.there in
@@ -83,6 +83,6 @@ module _ (lawful : List ℕ → Type 0) (may : List ℕ → List ℕ → Type 0)
       safe_touched lawful may terms w p safe caller cell within (released (stamp_of t)) u stage is
       (λ other apart. release_alike t _ write behind other apart)
       (release_follows t _ write behind)
-      (release_safe terms w p t _ write behind (sound_of terms w p t own) (phase_is terms w p stage own is) ending own.ends_so (ends_more t.now.writes write behind ends))
+      (release_safe terms w p t _ write behind own.sound (phase_is terms w p stage own is) ending own.ends_so (ends_more t.now.writes write behind ends))
       (omega arith) (λ same. absurd (omega (arith, low, same))) (inr low)
       (freed lawful may terms w p safe caller cell within (released (stamp_of t)) u refl refl (release_free (record t { due = ring_if (w.meta cell).pending cell }) cell behind next.done) mine (sym (written.newest ∙ stamp)) (there ∙ since.1))

@@ -9,7 +9,7 @@ use Rattle.stm_model.specs.Accesses.{next_at}
 use Rattle.stm_model.specs.After.{after_at, at, release_level_on, mark_on, ring_if, roll_on}
 use Rattle.stm_model.specs.Attempt.{Attempt, Close, Due, ReleaseLevel, Mark, RollBack, CommitClock, Write, held_at, has_prepared, unmarked_at, unstored_at, flies_at, holds, marks, stamp_of}
 use Rattle.stm_model.specs.Heap.{writes_to}
-use Rattle.stm_model.specs.Safe.{EndingAt, EndsSo, EndsWith, ReleasesLevel, HasBegun, HoldsNewest, PhaseAt, Safe, SafeAttempt, SafeStage, stamp_on}
+use Rattle.stm_model.specs.Safe.{EndingAt, EndsSo, EndsWith, ReleasesLevel, HasBegun, HoldsNewest, PhaseAt, Safe, SafeAttempt, SafeStage, stamp_on, Sound}
 use Rattle.stm_model.specs.World.{IsCaller, Terms, World, attempt_of, cells_in, words_after, clock_after, found, seen_after, since_at}
 use Rattle.opacity.proofs.Asks.{level_follows}
 use Rattle.opacity.proofs.Cells.{AlikeAt}
@@ -17,7 +17,7 @@ use Rattle.opacity.proofs.Ends.{clash}
 use Rattle.opacity.proofs.Fits.{ending_is, phase_is, stage_is}
 use Rattle.opacity.proofs.Levels.{HoldsThese, and_not, level_holds, level_safe}
 use Rattle.opacity.proofs.Releases.{due_same, held_here, written_cell}
-use Rattle.opacity.proofs.Stands.{Follows, Sound, follows_at, placed, sound_of, told_same}
+use Rattle.opacity.proofs.Stands.{Follows, follows_at, placed, told_same}
 use Rattle.opacity.proofs.Stepping.{roll_back_close, roll_back_stamp, stepped}
 use Rattle.opacity.proofs.Touch.{freed, kept, owner_is, safe_touched}
 use Rattle.opacity.proofs.Walks.{IsNext, among, among-append, ends_more, keys-append, next_of, none_before, none_behind, writes_to_else, writes_to_here}
@@ -154,7 +154,7 @@ module _ (lawful : List ℕ → Type 0) (may : List ℕ → List ℕ → Type 0)
       let stage = RollBack write behind in
       let cell = write.0 in
       let ends : EndsWith t.now.writes (write ∷ behind) = stage_is terms w p stage own is in
-      let next : IsNext t.now.writes write behind = next_of t.now.writes write behind own.entry.writes_apart ends in
+      let next : IsNext t.now.writes write behind = next_of t.now.writes write behind own.sound.entry.writes_apart ends in
       let ending : EndingAt stage t.ending = ending_is terms w p stage own is in
       let within : cell < cells_in terms = written_cell lawful may terms w p safe caller cell next.there in
       let mine : (w.meta cell).owner ≡ p = owner_is lawful may terms w safe p cell caller.0 within (held_here lawful may terms w p safe caller stage is cell (writes_to_here write behind)) in
@@ -166,7 +166,7 @@ module _ (lawful : List ℕ → Type 0) (may : List ℕ → List ℕ → Type 0)
       safe_touched lawful may terms w p safe caller cell within meta u stage is
       (λ other apart. roll_back_alike t due write behind other apart)
       (roll_back_follows t due write behind)
-      (roll_back_safe terms w p t due write behind (sound_of terms w p t own) (phase_is terms w p stage own is) ending own.ends_so (ends_more t.now.writes write behind ends))
+      (roll_back_safe terms w p t due write behind own.sound (phase_is terms w p stage own is) ending own.ends_so (ends_more t.now.writes write behind ends))
       (omega arith) (λ same set. set) (inl stamp)
       (freed lawful may terms w p safe caller cell within meta u refl refl (roll_back_free (record t { due = due }) cell behind next.done) mine settled.version settled.value)
 
@@ -192,9 +192,9 @@ module _ (lawful : List ℕ → Type 0) (may : List ℕ → List ℕ → Type 0)
       safe_touched lawful may terms w p safe caller cell within meta u stage is
       (λ other apart. given_alike t due kept write behind more undecided other apart)
       (level_follows t due stage kept behind tt refl undecided)
-      (level_safe terms w p (record t { due = due }) kept behind (sound_of terms w p t own) more active undecided)
+      (level_safe terms w p (record t { due = due }) kept behind own.sound more active undecided)
       (omega arith) (λ same set. set) (inl stamp)
-      (freed lawful may terms w p safe caller cell within meta u refl refl (these.held ∙ out_gone t kept write behind own.entry.writes_apart gives) mine settled.version settled.value)
+      (freed lawful may terms w p safe caller cell within meta u refl refl (these.held ∙ out_gone t kept write behind own.sound.entry.writes_apart gives) mine settled.version settled.value)
 
   pub keeps_mark : (write : Write) (behind : List Write) → (attempt_of w p).stage ≡ Mark write behind → Safe lawful may terms (stepped w p (Mark write behind))
   unfolding next_at after_at words_after found seen_after since_at clock_after held_at EndingAt PhaseAt SafeStage
@@ -204,7 +204,7 @@ module _ (lawful : List ℕ → Type 0) (may : List ℕ → List ℕ → Type 0)
       let stage = Mark write behind in
       let cell = write.0 in
       let ends : EndsWith t.now.writes (write ∷ behind) = stage_is terms w p stage own is in
-      let next : IsNext t.now.writes write behind = next_of t.now.writes write behind own.entry.writes_apart ends in
+      let next : IsNext t.now.writes write behind = next_of t.now.writes write behind own.sound.entry.writes_apart ends in
       let undecided : t.ending ≡ None = ending_is terms w p stage own is in
       let within : cell < cells_in terms = written_cell lawful may terms w p safe caller cell next.there in
       let mine : (w.meta cell).owner ≡ p = owner_is lawful may terms w safe p cell caller.0 within (held_here lawful may terms w p safe caller stage is cell next.there) in
@@ -213,6 +213,6 @@ module _ (lawful : List ℕ → Type 0) (may : List ℕ → List ℕ → Type 0)
       safe_touched lawful may terms w p safe caller cell within meta (mark_on t behind) stage is
       (λ other apart. mark_alike t write behind other apart)
       (mark_follows t write behind)
-      (mark_safe terms w p t behind (sound_of terms w p t own) (phase_is terms w p stage own is) undecided (omega (arith, ap length ends.1, length-append ends.0 (write ∷ behind))) (ends_more t.now.writes write behind ends))
+      (mark_safe terms w p t behind own.sound (phase_is terms w p stage own is) undecided (omega (arith, ap length ends.1, length-append ends.0 (write ∷ behind))) (ends_more t.now.writes write behind ends))
       (omega arith) (λ same set. set) (inl stamp)
       (kept lawful may terms w p safe caller cell within meta (mark_on t behind) mine (mark_holds t cell behind next.there) (mark_marks t cell behind next.there next.done) (mark_stamp t behind undecided) stamp refl (inl mine))

@@ -55,7 +55,7 @@ module _ (lawful : List ℕ → Type 0) (may : List ℕ → List ℕ → Type 0)
   safe_opaque w p safe caller begun kept =
       let own = safe.attempts p caller in
       record {
-        prefix = own.prefix;
+        prefix = own.sound.prefix;
         fresh = (safe.views p caller.1).fresh begun kept;
-        notes = Agrees-from_current terms.opening w.history (attempt_of w p).prefix (attempt_of w p).notes own.notes;
+        notes = Agrees-from_current terms.opening w.history (attempt_of w p).prefix (attempt_of w p).notes own.sound.notes;
       }

@@ -1,4 +1,4 @@
--- What holds of an attempt wherever it stands, and what it takes to stand elsewhere.
+-- What stays of an attempt wherever it stands, and what it takes to stand elsewhere.
 use Rattle.std.proofs.Common.{true, false, nat_eq, IfSome, ◌≡◌, ℕ, ◌<◌, ◌^◌, ◌≤◌, Option, Some, None, List, [], ◌∷◌, length, refl, sym, ◌∙◌, arith}
 use Rattle.std.proofs.lemmas.List.Elements.{All-nil}
 use Rattle.std.specs.List.{All, IsDistinct}
@@ -13,27 +13,11 @@ use Rattle.stm_model.specs.After.{at}
 use Rattle.stm_model.specs.Attempt.{Ended, Attempt, Stage, Write, Announce, Begin, Stopped, ReadMeta, ExtendClock, ExtendNote, ReadValue, Validate, AcquireMeta, Acquire, OwnerStatus, OwnerMeta, DoomOwner, ReleaseLevel, Prepare, Mark, CommitClock, CommitNote, Decide, StoreValues, Release, RollBack, cause_at, flies_at, stamp_of}
 use Rattle.stm_model.specs.CellsState.{Book}
 use Rattle.stm_model.specs.Heap.{AreWords}
-use Rattle.stm_model.specs.History.{IsCurrent, IsEntry}
-use Rattle.stm_model.specs.Safe.{EndingAt, HasBegun, IsKept, IsShown, IsToRead, IsToWrite, LevelsNest, PhaseAt, SafeAttempt, SafeStage, SafeStatus, SafeView, SerialAt, EndsSo, WasTaken, WasSampled, WasSeen, caller_at, serial_at}
+use Rattle.stm_model.specs.History.{IsCurrent}
+use Rattle.stm_model.specs.Safe.{EndingAt, HasBegun, IsKept, IsSound, IsToRead, IsToWrite, LevelsNest, PhaseAt, SafeAttempt, SafeStage, SafeStatus, SafeView, SerialAt, Sound, EndsSo, WasTaken, WasSampled, WasSeen, caller_at, serial_at}
 use Rattle.stm_model.specs.World.{Terms, View, World, attempt_of, cells_in, entry_of}
 use Rattle.opacity.proofs.Shown.{Shows, from_shown, if_shown, to_shown}
 use Rattle.opacity.proofs.Whole.{OwnSafe}
-
--- What holds of an attempt wherever it stands, by its number, serial, limit and prefix, what it has read and written, and its levels.
-pub record IsSound (terms : Terms) (w : World) (p number count clock heap : ℕ) (read : List Note) (written : List Write) (books : List Book) : Type 0 where
-  pub own : number ≡ p
-  pub serial : count ≤ MAX_SERIAL
-  pub limit : clock ≡ terms.limit
-  pub prefix : heap ≤ length w.history
-  pub notes : All (IsCurrent terms.opening w.history heap) read
-  pub entry : IsEntry (record { caller = number; serial = count; reads = read; writes = written })
-  pub noted_cells : All (λ note. note.addr.0 < cells_in terms) read
-  pub written_cells : All (λ cell. cell < cells_in terms) (keys_of written)
-  pub levels : LevelsNest (keys_of written) books
-
--- The rest of it is no part of that: the phase, what it registers, comes to, owes and has rung for, its ending and its stage.
-abbrev pub Sound : Terms → World → ℕ → Attempt → Type 0
-Sound terms w p t = IsSound terms w p t.own t.serial t.settings.clock t.prefix t.notes t.now.writes t.saved
 
 -- Two attempts have in common all that their stages speak of.
 pub record SameGround (t u : Attempt) : Type 0 where
@@ -46,21 +30,8 @@ pub record SameGround (t u : Attempt) : Type 0 where
   pub saved : u.saved ≡ t.saved
 
 module _ (terms : Terms) (w : World) (p : ℕ) where
-  pub sound_of : (t : Attempt) → SafeAttempt terms w p t → Sound terms w p t
-  sound_of t safe = record {
-    own = safe.own;
-    serial = safe.serial;
-    limit = safe.limit;
-    prefix = safe.prefix;
-    notes = safe.notes;
-    entry = safe.entry;
-    noted_cells = safe.noted_cells;
-    written_cells = safe.written_cells;
-    levels = safe.levels;
-  }
-
   -- what has read and written nothing
-  pub blank_sound : (count clock : ℕ) → count ≤ MAX_SERIAL → clock ≡ terms.limit → IsSound terms w p p count clock 0 [] [] []
+  pub blank_sound : (count clock : ℕ) → count ≤ MAX_SERIAL → clock ≡ terms.limit → IsSound terms w p (record { caller = p; serial = count; reads = []; writes = [] }) clock 0 []
   unfolding IsDistinct
   blank_sound count clock room limit = record {
     own = refl;
@@ -105,25 +76,6 @@ module _ (terms : Terms) (w : World) (p : ℕ) where
 
   pub sound_levels : (t : Attempt) (saved : List Book) → Sound terms w p t → LevelsNest (keys_of t.now.writes) saved → Sound terms w p (record t { saved = saved })
   sound_levels t saved sound levels = sound_with t t.now.writes saved sound sound.entry.writes_apart sound.entry.words sound.written_cells levels
-
-  -- What else it takes where it stands.
-  pub stands_safe : (t : Attempt) → Sound terms w p t → PhaseAt t.stage t.ending t.phase → EndingAt t.stage t.ending → EndsSo w t t.ending → IfSome (cause_at t.stage) (IsShown t) → SafeStage terms w t t.stage → SafeAttempt terms w p t
-  stands_safe t sound phase ending so shown stage = record {
-    own = sound.own;
-    serial = sound.serial;
-    limit = sound.limit;
-    prefix = sound.prefix;
-    notes = sound.notes;
-    entry = sound.entry;
-    noted_cells = sound.noted_cells;
-    written_cells = sound.written_cells;
-    levels = sound.levels;
-    phase = phase;
-    ending = ending;
-    ends_so = so;
-    refused = shown;
-    stage = stage;
-  }
 
   module _ (t u : Attempt) (same : SameGround t u) where
     to_read : (cell : ℕ) → IsToRead terms t cell → IsToRead terms u cell
@@ -194,7 +146,14 @@ module _ (terms : Terms) (w : World) (p : ℕ) where
   pub placed_with : (t : Attempt) → Sound terms w p t → EndsSo w t t.ending → (stage : Stage) → HasBegun stage → IfSome (cause_at stage) (Shows t) → PhaseAt stage t.ending t.phase → EndingAt stage t.ending
       → SafeStage terms w t stage → SafeAttempt terms w p (at t stage)
   placed_with t sound told stage begun shown phase ending safe =
-      stands_safe (at t stage) sound phase ending (told_same t (at t stage) (at_same t stage) t.ending told) (if_shown (at t stage) (cause_at stage) shown) (stage_same t (at t stage) (at_same t stage) stage begun safe)
+      record {
+        sound = sound;
+        phase = phase;
+        ending = ending;
+        ends_so = told_same t (at t stage) (at_same t stage) t.ending told;
+        refused = if_shown (at t stage) (cause_at stage) shown;
+        stage = stage_same t (at t stage) (at_same t stage) stage begun safe;
+      }
 
 -- A stage that has begun, and at which nothing was refused.
 abbrev pub IsPlain : Stage → Type 0

@@ -14,14 +14,14 @@ use Rattle.stm_model.specs.Evidence.{Evidence}
 use Rattle.stm_model.specs.Handlers.{preparing}
 use Rattle.stm_model.specs.Heap.{writes_to}
 use Rattle.stm_model.specs.History.{IsCurrent}
-use Rattle.stm_model.specs.Safe.{NamesNote, IsKept, EndingAt, EndsSo, HasBegun, IsBlank, PhaseAt, Safe, SafeAttempt, SafeStage, SerialAt, serial_at}
+use Rattle.stm_model.specs.Safe.{NamesNote, IsKept, EndingAt, EndsSo, HasBegun, IsBlank, PhaseAt, Safe, SafeAttempt, SafeStage, SerialAt, serial_at, Sound}
 use Rattle.stm_model.specs.World.{IsCaller, Terms, View, World, attempt_of, words_after, clock_after, found, replaced, seen_after, since_at, with_status, with_view}
 use Rattle.opacity.proofs.Cells.{AlikeAt}
 use Rattle.opacity.proofs.Ends.{rolled_open}
 use Rattle.opacity.proofs.Fits.{ending_is, phase_is, safe_local, stage_is}
 use Rattle.opacity.proofs.RollBacks.{mark_safe}
 use Rattle.opacity.proofs.Places.{replaced_else, replaced_here}
-use Rattle.opacity.proofs.Stands.{kept_flying, Sound, placed, serial_to, sound_at, sound_of, stands_safe, told_same}
+use Rattle.opacity.proofs.Stands.{kept_flying, placed, serial_to, sound_at, told_same}
 use Rattle.opacity.proofs.Stepping.{stepped}
 use Rattle.opacity.proofs.Whole.{KeepsWord, OwnSafe}
 use Rattle.opacity.proofs.OwnWords.{safe_words}
@@ -34,16 +34,16 @@ module _ (lawful : List ℕ → Type 0) (may : List ℕ → List ℕ → Type 0)
   own = safe.attempts p caller
 
   sound : Sound terms w p t
-  sound = sound_of terms w p t own
+  sound = own.sound
 
   -- ---- the own word is another
 
   -- the caller's own word, and all others, after a store of it
   word_here : (new : TxnStatus) → replaced w.status t.own new p ≡ new
-  word_here new = rw own.own (replaced_here w.status p new)
+  word_here new = rw own.sound.own (replaced_here w.status p new)
 
   words_else : (new : TxnStatus) (q : ℕ) → q ≢ p → KeepsWord (w.status q) (replaced w.status t.own new q)
-  words_else new q other = inl (rw own.own (replaced_else w.status p new q other))
+  words_else new q other = inl (rw own.sound.own (replaced_else w.status p new q other))
 
   stored : (new : TxnStatus) (x : View) (stage : Stage) → t.stage ≡ stage → ((cell : ℕ) → AlikeAt cell x.attempt (at t stage)) → OwnSafe terms w p x new → Safe lawful may terms (with_view (with_status w t.own new) p x)
   stored new x stage is alike own_safe =
@@ -66,8 +66,14 @@ module _ (lawful : List ℕ → Type 0) (may : List ℕ → List ℕ → Type 0)
   announced_attempt is =
       let blank : IsBlank t = stage_is terms w p Announce own is in
       let none : t.ending ≡ None = ending_is terms w p Announce own is in
-      stands_safe terms w p (at (record t { phase = Active }) Begin) sound refl none (subst (λ (e : Option Ending). EndsSo w (at (record t { phase = Active }) Begin) e) (sym none) tt) tt
-      (record { due = blank.due; notes = blank.notes; now = blank.now; saved = blank.saved })
+      record {
+        sound = sound;
+        phase = refl;
+        ending = none;
+        ends_so = subst (λ (e : Option Ending). EndsSo w (at (record t { phase = Active }) Begin) e) (sym none) tt;
+        refused = tt;
+        stage = record { due = blank.due; notes = blank.notes; now = blank.now; saved = blank.saved };
+      }
 
   announced : (is : t.stage ≡ Announce) → OwnSafe terms w p (record (w.view p) { attempt = at (record t { phase = Active }) Begin; since = (w.view p).seen }) (active t.serial)
   unfolding HasBegun SerialAt EndingAt flies_at
@@ -172,9 +178,9 @@ module _ (lawful : List ℕ → Type 0) (may : List ℕ → List ℕ → Type 0)
   doomed_word is lost =
       let serial : t.serial ≡ (w.status p).serial = serial_is Prepare is in
       let active_phase : t.phase ≡ Active = phase_is terms w p Prepare own is in
-      rw own.own (elim (safe.statuses p caller).phase [
+      rw own.sound.own (elim (safe.statuses p caller).phase [
         | inl same ↦
-            let never : true ≡ false = sym (active_same (w.status p) t.serial serial (same ∙ active_phase)) ∙ rw own.own at lost in
+            let never : true ≡ false = sym (active_same (w.status p) t.serial serial (same ∙ active_phase)) ∙ rw own.sound.own at lost in
             cc
         | inr doomed ↦ doomed.1
       ])

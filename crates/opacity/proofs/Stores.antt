@@ -7,7 +7,7 @@ use Rattle.stm_model.specs.After.{after_at, at, release_on, store_on}
 use Rattle.stm_model.specs.Attempt.{flies_at, Attempt, Release, Stage, StoreValues, Write, held_at, unmarked_at, unstored_at, holds, marks, stamp_of}
 use Rattle.stm_model.specs.Heap.{over, writes_to}
 use Rattle.stm_model.specs.History.{Entry, entry_after, state}
-use Rattle.stm_model.specs.Safe.{EndingAt, EndsSo, EndsWith, HasBegun, IsBeingWritten, PhaseAt, Safe, SafeAttempt, SafeCell, SafeStage, stamp_on, value_then}
+use Rattle.stm_model.specs.Safe.{EndingAt, EndsSo, EndsWith, HasBegun, IsBeingWritten, PhaseAt, Safe, SafeAttempt, SafeCell, SafeStage, stamp_on, value_then, Sound}
 use Rattle.stm_model.specs.World.{IsCaller, Terms, View, World, attempt_of, cells_in, words_after, clock_after, entry_of, found, replaced, seen_after, since_at}
 use Rattle.stm_model.proofs.HeapLemmas.{over_found}
 use Rattle.stm_model.proofs.HistoryLemmas.{length-state, state-suc}
@@ -15,7 +15,7 @@ use Rattle.opacity.proofs.Cells.{AlikeAt, MovesOn, SameCell, same_of}
 use Rattle.opacity.proofs.Fits.{ending_is, phase_is, stage_is}
 use Rattle.opacity.proofs.Places.{replaced_else, replaced_here}
 use Rattle.opacity.proofs.Releases.{held_here, release_safe, written_cell}
-use Rattle.opacity.proofs.Stands.{Follows, Sound, follows_at, own_follows, placed, sound_of}
+use Rattle.opacity.proofs.Stands.{Follows, follows_at, own_follows, placed}
 use Rattle.opacity.proofs.Stepping.{IsStamped, stamped_release, stepped}
 use Rattle.opacity.proofs.Touch.{owner_is}
 use Rattle.opacity.proofs.Walks.{IsNext, ends_more, next_of, writes_to_else}
@@ -92,7 +92,7 @@ module _ (lawful : List ℕ → Type 0) (may : List ℕ → List ℕ → Type 0)
   stamped = stamped_release w t write behind ending (safe.attempts p caller).ends_so
 
   next : IsNext t.now.writes write behind
-  next = next_of t.now.writes write behind (safe.attempts p caller).entry.writes_apart ends
+  next = next_of t.now.writes write behind (safe.attempts p caller).sound.entry.writes_apart ends
 
   within : cell < cells_in terms
   within = written_cell lawful may terms w p safe caller cell next.there
@@ -173,7 +173,7 @@ module _ (lawful : List ℕ → Type 0) (may : List ℕ → List ℕ → Type 0)
       let goes : Follows (attempt_of w p) (store_on t behind) = subst (λ (s : Stage). Follows (at t s) (store_on t behind)) (sym is) (store_follows t write behind behind) in
       own_follows terms w p (attempt_of w p) x refl view (safe.statuses p caller) (λ n inside same. safe.callers.undecided n p inside same)
       (record { seen = omega arith; high = view.seen; since = refl; clock = view.clock }) goes
-      (store_safe terms w p t write behind behind (sound_of terms w p t own) prepares ending own.ends_so (ends_more t.now.writes write behind ends))
+      (store_safe terms w p t write behind behind own.sound prepares ending own.ends_so (ends_more t.now.writes write behind ends))
 
   pub keeps_store_values : Safe lawful may terms (stepped w p (StoreValues write behind))
   unfolding next_at after_at words_after found seen_after since_at clock_after

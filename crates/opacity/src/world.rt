@@ -129,8 +129,10 @@ impl<L: Law + Drop> World<L> {
         requires limit { limit ≤ MAX_VERSION }
         requires lawful { L.lawful law opening.now }
         ensures fresh { IfOk result (λ world. IsFresh world law opening.now callers limit) }
-        ensures opens { IfOk result (λ world. (settings : Settings) → settings.clock ≡ limit → (let terms = terms_of opening.now callers limit in
-            ShowsSafe (L.lawful law) (L.may law) terms world.words.items [] (opened terms settings))) }
+        ensures opens { IfOk result (λ world. (settings : Settings) → (let terms = terms_of opening.now callers limit in
+            world_of terms world.words.items [] (opened terms settings).view ≡ opened terms settings)) }
+        ensures safe { IfOk result (λ world. (settings : Settings) → settings.clock ≡ limit → (let terms = terms_of opening.now callers limit in
+            Safe (L.lawful law) (L.may law) terms (world_of terms world.words.items [] (opened terms settings).view))) }
     {
         let words = opening_words(alloc, callers, opening)?;
         let opening = opening.to_vec(alloc)?;

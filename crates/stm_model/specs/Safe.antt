@@ -217,18 +217,26 @@ LevelsNest cells [] = Unit {0}
 LevelsNest cells (book ∷ books) =
     ((since : List ℕ) × (cells ≡ keys_of book.writes ++ since)) × AreWords (values_of book.writes) × LevelsNest (keys_of book.writes) books
 
+-- What holds of an attempt at every stage: draft is the entry that it would leave in the history, clock its limit of the clock, heap its prefix, and saved its open levels.
+pub record IsSound (terms : Terms) (w : World) (p : ℕ) (draft : Entry) (clock heap : ℕ) (saved : List Book) : Type 0 where
+  pub own : draft.caller ≡ p
+  pub serial : draft.serial ≤ MAX_SERIAL
+  pub limit : clock ≡ terms.limit
+  -- all that it has read is from the heap at its prefix
+  pub prefix : heap ≤ length w.history
+  pub notes : All (IsCurrent terms.opening w.history heap) draft.reads
+  pub entry : IsEntry draft
+  pub noted_cells : All (λ note. note.addr.0 < cells_in terms) draft.reads
+  pub written_cells : All (λ cell. cell < cells_in terms) (keys_of draft.writes)
+  pub levels : LevelsNest (keys_of draft.writes) saved
+
+-- The attempt is sound. Its phase, its ending, its stage, its handlers and what it owes are no part of that.
+abbrev pub Sound : Terms → World → ℕ → Attempt → Type 0
+Sound terms w p t = IsSound terms w p (entry_of t) t.settings.clock t.prefix t.saved
+
 -- an attempt that a caller makes
 pub record SafeAttempt (terms : Terms) (w : World) (p : ℕ) (t : Attempt) : Type 0 where
-  pub own : t.own ≡ p
-  pub serial : t.serial ≤ MAX_SERIAL
-  pub limit : t.settings.clock ≡ terms.limit
-  -- all that it has read is from the heap at its prefix
-  pub prefix : t.prefix ≤ length w.history
-  pub notes : All (IsCurrent terms.opening w.history t.prefix) t.notes
-  pub entry : IsEntry (entry_of t)
-  pub noted_cells : All (λ note. note.addr.0 < cells_in terms) t.notes
-  pub written_cells : All (λ cell. cell < cells_in terms) (keys_of t.now.writes)
-  pub levels : LevelsNest (keys_of t.now.writes) t.saved
+  pub sound : Sound terms w p t
   pub phase : PhaseAt t.stage t.ending t.phase
   pub ending : EndingAt t.stage t.ending
   pub ends_so : EndsSo w t t.ending

@@ -44,6 +44,3 @@ pub use shown::{Rest, Shown};
 pub use sizes::{BLOCK_CELLS, Layout, MOST_CELLS, MOST_PARTS};
 pub use values::{Runs, Values, Words};
 pub use word_value::WordValue;
-
-#[cfg(test)]
-mod tests;
