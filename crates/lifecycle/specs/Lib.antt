@@ -1,3 +1,4 @@
+pub mod NextRun
 pub mod Registered
 pub mod StageRuns
 pub mod Walk

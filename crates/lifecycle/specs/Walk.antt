@@ -1,11 +1,15 @@
--- Private: one step of a walk along the runs of a stage.
-use Rattle.std.specs.Prelude.{◌≡◌, ℕ, [], ◌∷◌, Option, None, Some}
-use Rattle.lifecycle.specs.StageRuns.{left_after}
-use Rattle.lifecycle.specs.declared.stage.Stage.{Stage}
-use Rattle.stm_model.specs.declared.cause.HookPhase.{HookPhase}
+-- The runs of one stage, or of two, one behind the other.
+use Rattle.std.specs.Prelude.{[], ◌++◌, Option, None, Some}
+use Rattle.lifecycle.specs.StageRuns.{runs_left}
+use Rattle.lifecycle.specs.declared.cursor.Cursor.{Cursor}
+use Rattle.lifecycle.specs.declared.walk.Walk.{Walk}
 use Rattle.stm_model.specs.Handlers.{Handlers}
 
--- This is the first run that is left, with how many registrations are passed behind it, or none is left.
-abbrev pub IsNextRun : Stage → ℕ → Handlers → Option (HookPhase × ℕ × ℕ) → Type 0
-IsNextRun stage passed hooks None = left_after stage passed hooks ≡ []
-IsNextRun stage passed hooks (Some run) = left_after stage passed hooks ≡ (run.0, run.1) ∷ left_after stage run.2 hooks
+-- the runs that a cursor has still to come to, where there is one
+abbrev pub runs_behind : Option Cursor → Handlers → Handlers
+runs_behind None hooks = []
+runs_behind (Some cursor) hooks = runs_left cursor hooks
+
+-- the runs that are due: those that the cursor has still to come to, and then those that the one behind it has
+abbrev pub walk_runs : Walk → Handlers → Handlers
+walk_runs walk hooks = runs_left walk.cursor hooks ++ runs_behind walk.behind hooks

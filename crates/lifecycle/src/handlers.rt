@@ -1,12 +1,14 @@
 //! Lists of registrations, which can go back to what they were.
-ghost use Rattle.std.specs.Prelude.{◌≡◌, ◌≢◌, ◌+◌, ◌<◌, ◌≤◌, ◌^◌, [], ◌∷◌, ◌++◌, length, take, drop, slice_get, IsOk, MatchOption, OnErr, OnOk};
+ghost use Rattle.std.specs.Prelude.{◌≡◌, ◌≢◌, ◌+◌, ◌<◌, ◌≤◌, ◌^◌, [], ◌∷◌, ◌++◌, length, take, drop, slice_get, IsOk, IsSome, MatchOption, OnErr, OnOk};
 ghost use Rattle.lifecycle.specs.Registered.{SameHooks, SameLaters};
 ghost use Rattle.lifecycle.specs.StageRuns.{runs_left, stage_runs};
-ghost use Rattle.lifecycle.specs.Walk.{IsNextRun};
+ghost use Rattle.lifecycle.specs.Walk.{walk_runs};
+ghost use Rattle.lifecycle.specs.NextRun.{IsNextRun};
 ghost use Rattle.lifecycle.specs.declared.stage.Stage.TheVariants.{AfterRollback};
 
 use crate::cursor::Cursor;
 use crate::stage::Stage;
+use crate::walk::Walk;
 use std::alloc::Global;
 use std::marker::Model;
 use stm_model::{HookPhase, Memory};
@@ -118,9 +120,10 @@ impl Handlers {
         self.laters.truncate(mark);
     }
 
-    /// The token of the before-commit body at this index.
+    /// The token of the before-commit body at this index. An index that has one is below 2^63.
     pub fn later_at(&self, index: usize) -> Option<u64>
-        ensures { result ≡ slice_get self.now.laters index }
+        ensures token { result ≡ slice_get self.now.laters index }
+        ensures fits { IsSome result → index < 2 ^ 63 }
     {
         self.laters.as_slice().get(index).copied()
     }
@@ -153,6 +156,20 @@ impl Handlers {
         };
         let next = Cursor { passed, ..cursor };
         Some((phase, token, next))
+    }
+
+    /// The first run of a walk, and the walk behind it.
+    pub fn walk_on(&self, walk: Walk) -> Option<(HookPhase, u64, Walk)>
+        ensures { MatchOption result
+            (walk_runs walk self.now.hooks ≡ [])
+            (λ run. walk_runs walk self.now.hooks ≡ (run.0, run.1) ∷ walk_runs run.2 self.now.hooks) }
+    {
+        if let Some((phase, token, cursor)) = self.next_run(walk.cursor) {
+            return Some((phase, token, Walk { cursor, ..walk }));
+        }
+        let (phase, token, cursor) = self.next_run(walk.behind?)?;
+        let behind = None;
+        Some((phase, token, Walk { cursor, behind }))
     }
 
     /// Forgets all, and keeps the memory for what comes next.

@@ -4,11 +4,13 @@
 mod cursor;
 mod handlers;
 mod stage;
+mod walk;
 
 pub use cursor::Cursor;
 pub use handlers::Handlers;
 pub use stage::Stage;
 pub use stm_model::{HookPhase, Memory};
+pub use walk::Walk;
 
 #[cfg(test)]
 mod tests;

@@ -1,5 +1,5 @@
 //! Runs of each stage in their order, undo to marks, and room.
-use crate::{Cursor, Handlers, HookPhase, Memory, Stage};
+use crate::{Cursor, Handlers, HookPhase, Memory, Stage, Walk};
 use std::alloc::Global;
 use std::process::Abort;
 use std::test::Fail;
@@ -87,6 +87,31 @@ fn each_stage_runs_its_phases(rt: HostRuntime) -> Result<(), Fail> {
     );
     assert!(rt; runs(&rt, &handlers, Stage::AfterCommit, 4, [10, 13].as_slice()));
     assert!(rt; runs(&rt, &handlers, Stage::AfterRollback, 11, [].as_slice()));
+    Ok(())
+}
+
+// Whether these tokens run along a walk.
+fn walks(handlers: &Handlers, walk: Walk, tokens: &[u64]) -> bool {
+    let mut walk = walk;
+    for token in tokens {
+        let Some((_, run, next)) = handlers.walk_on(walk) else {
+            return false;
+        };
+        if run != *token {
+            return false;
+        }
+        walk = next;
+    }
+    handlers.walk_on(walk).is_none()
+}
+
+#[test]
+fn one_stage_runs_behind_another(rt: HostRuntime) -> Result<(), Fail> {
+    let handlers = two_of_each(rt.alloc())?;
+    let both = Walk::both(Stage::Preparing, Stage::Committing);
+    assert!(rt; walks(&handlers, both, [4, 14, 2, 12].as_slice()));
+    let undo = Walk::new(Stage::AfterRollback, 6);
+    assert!(rt; walks(&handlers, undo, [11].as_slice()));
     Ok(())
 }
 
