@@ -8,6 +8,10 @@ pub record Reads : Type 0 where
   pub notes : List Note
   pub spare : ℕ
 
+-- the cells of the notes
+abbrev pub cells_of : List Note → List ℕ
+cells_of notes = map (λ note. note.addr.0) notes
+
 -- No cell is noted twice.
 abbrev pub AreApart : List Note → Type 0
-AreApart notes = IsDistinct nat_eq (map (λ note. note.addr.0) notes)
+AreApart notes = IsDistinct nat_eq (cells_of notes)

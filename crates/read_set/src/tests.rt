@@ -54,6 +54,23 @@ fn a_note_is_found_by_its_cell(rt: HostRuntime) -> Result<(), Fail> {
 }
 
 #[test]
+fn a_cleared_set_takes_notes_again(rt: HostRuntime) -> Result<(), Fail> {
+    let mut reads = ReadSet::new(rt.alloc());
+    assert!(rt; note_once(&mut reads, 4, 5)?);
+    reads.clear();
+    assert_eq!(rt; reads.len(), 0);
+    let unnoted = reads.find(Addr(4)).is_none();
+    assert!(rt; unnoted && reads.spare() > 0);
+    reads.add_spare(Note {
+        addr: Addr(4),
+        version: 0,
+        value: 6,
+    });
+    assert_eq!(rt; value_of(&reads, 4), Some(6));
+    Ok(())
+}
+
+#[test]
 fn many_notes_are_found(rt: HostRuntime) -> Result<(), Fail> {
     let mut reads = ReadSet::new(rt.alloc());
     for number in 0..10_000 {

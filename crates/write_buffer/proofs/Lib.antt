@@ -1,4 +1,5 @@
 pub mod GivenBack
+pub mod Indexed
 pub mod Marks
 pub mod Places
 pub mod Undoing

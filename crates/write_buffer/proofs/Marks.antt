@@ -1,9 +1,9 @@
 -- Marks through each change of a buffer.
-use Rattle.std.proofs.Common.{◌≡◌, ℕ, List, [], ◌∷◌, ◌++◌, length, take, drop, set, slice_get, Some, refl, sym, ap, ◌∙◌, arith, length-set, length-append}
-use Rattle.std.proofs.lemmas.List.{drop-append-le, drop_all, length-take-le, take-append-le, take_all}
+use Rattle.std.proofs.Common.{◌≡◌, ℕ, ◌≤◌, List, [], ◌∷◌, ◌++◌, length, get_or, take, drop, refl, sym, ap, ◌∙◌, arith, length-append}
+use Rattle.std.proofs.lemmas.List.{drop-append-le, drop_all, length-take, length-take-le, take-append-le, take_all}
 use Rattle.stm_model.specs.declared.marks.WriteMark.{WriteMark}
-use Rattle.write_buffer.specs.Buffer.{Buffer, IsMark, IsNoLater, Keeps, at_mark, given_back}
-use Rattle.write_buffer.proofs.GivenBack.{drop_front, given_back_append, given_back_newest, given_back_none, length_given_back, take_given_back, take_shorter, take_with_value, with_value_former}
+use Rattle.write_buffer.specs.Buffer.{Buffer, IsMark, IsNoLater, Keeps, at_mark, given_back, with_value}
+use Rattle.write_buffer.proofs.GivenBack.{drop_front, given_back_append, given_back_newest, given_back_none, length_given_back, take_given_back, take_shorter, take_with_value, length_with_value, with_value_former, with_value_past}
 
 -- nothing that a mark looks at has changed
 pub Keeps_same : (before after : Buffer) → after.writes ≡ before.writes → after.replaced ≡ before.replaced → (mark : WriteMark) → IsMark before mark → Keeps before after mark
@@ -27,24 +27,45 @@ Keeps_new before after write writes replaced mark is =
       same = rw (writes, replaced, take-append-le mark.entries before.writes (write ∷ []) is.entries) refl;
     }
 
--- a write in the place of another one
-pub Keeps_again : (before after : Buffer) (index address value former : ℕ) → slice_get before.writes index ≡ Some (address, former)
-    → after.writes ≡ set before.writes index (address, value) → after.replaced ≡ before.replaced ++ (index, former) ∷ []
+-- another value in a place, whose former one is kept
+pub Keeps_again : (before after : Buffer) (place value former : ℕ) → former ≡ (get_or before.writes place (0, 0)).1
+    → after.writes ≡ with_value before.writes place value → after.replaced ≡ before.replaced ++ (place, former) ∷ []
     → (mark : WriteMark) → IsMark before mark → Keeps before after mark
 unfolding at_mark
-Keeps_again before after index address value former here writes replaced mark is =
+Keeps_again before after place value former here writes replaced mark is =
     record {
       still = record {
-        entries = rw writes (omega (arith, length-set before.writes index (address, value), is.entries));
-        restores = rw replaced (omega (arith, length-append before.replaced ((index, former) ∷ []), is.restores));
+        entries = rw writes (omega (arith, length_with_value before.writes place value, is.entries));
+        restores = rw replaced (omega (arith, length-append before.replaced ((place, former) ∷ []), is.restores));
       };
       same =
-          rw (writes, replaced, drop-append-le mark.restores before.replaced ((index, former) ∷ []) is.restores)
-          (given_back_newest (take mark.entries (set before.writes index (address, value))) (drop mark.restores before.replaced) index former
+          rw (writes, replaced, drop-append-le mark.restores before.replaced ((place, former) ∷ []) is.restores)
+          (given_back_newest (take mark.entries (with_value before.writes place value)) (drop mark.restores before.replaced) place former
           ∙ ap (λ (kept : List (ℕ × ℕ)). given_back kept (drop mark.restores before.replaced))
-          (sym (take_with_value mark.entries (set before.writes index (address, value)) index former)
-          ∙ ap (take mark.entries) (with_value_former before.writes index address value former here)));
+          (sym (take_with_value mark.entries (with_value before.writes place value) place former)
+          ∙ ap (take mark.entries) (with_value_former before.writes place value former here)));
     }
+
+-- another value in a place that the mark doesn't count
+pub Keeps_later : (before after : Buffer) (place value : ℕ) → after.writes ≡ with_value before.writes place value → after.replaced ≡ before.replaced
+    → (mark : WriteMark) → IsMark before mark → mark.entries ≤ place → Keeps before after mark
+unfolding at_mark
+Keeps_later before after place value writes replaced mark is later =
+    let few : length (take mark.entries before.writes) ≤ place = rw length-take (omega arith) in
+    record {
+      still = record {
+        entries = rw writes (omega (arith, length_with_value before.writes place value, is.entries));
+        restores = rw replaced is.restores;
+      };
+      same =
+          rw (writes, replaced)
+          (ap (λ (kept : List (ℕ × ℕ)). given_back kept (drop mark.restores before.replaced))
+          (take_with_value mark.entries before.writes place value ∙ with_value_past (take mark.entries before.writes) place value few));
+    }
+
+-- a mark taken no later than another one
+pub IsMark_earlier : (buffer : Buffer) (since mark : WriteMark) → IsMark buffer since → IsNoLater mark since → IsMark buffer mark
+IsMark_earlier buffer since mark is earlier = record { entries = omega (arith, is.entries, earlier.entries); restores = omega (arith, is.restores, earlier.restores) }
 
 -- an undo, for marks taken no later than the one that it goes back to
 pub Keeps_undone : (before after : Buffer) (mark : WriteMark) → IsMark before mark → after.writes ≡ at_mark before mark → after.replaced ≡ take mark.restores before.replaced

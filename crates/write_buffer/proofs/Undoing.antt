@@ -3,28 +3,26 @@ use Rattle.std.proofs.Common.{◌≡◌, ℕ, ◌<◌, ◌≤◌, List, [], ◌�
 use Rattle.std.specs.Prelude.{slice_index_or}
 use Rattle.std.proofs.lemmas.List.{drop-append-le, drop_all, length-take-le, take-append-le, take_all}
 use Rattle.stm_model.specs.declared.marks.WriteMark.{WriteMark}
-use Rattle.write_buffer.specs.Buffer.{AreApart, Buffer, IsMark, at_mark, given_back, with_value}
-use Rattle.write_buffer.proofs.GivenBack.{AreApart_take, AreApart_with_value, given_back_newest, given_back_none}
+use Rattle.write_buffer.specs.Buffer.{Buffer, IsMark, at_mark, given_back, with_value}
+use Rattle.write_buffer.proofs.GivenBack.{given_back_newest, given_back_none}
 
 -- These writes lead back to the mark, when the values that were replaced since and aren't given back yet are.
 pub record IsUndoing (buffer : Buffer) (mark : WriteMark) (writes replaced : List (ℕ × ℕ)) : Type 0 where
   pub going_back : given_back writes (drop mark.restores replaced) ≡ at_mark buffer mark
   pub older : take mark.restores replaced ≡ take mark.restores buffer.replaced
   pub left : mark.restores ≤ length replaced
-  pub apart : AreApart writes
   pub entries : length writes ≤ length buffer.writes
   pub restores : length replaced ≤ length buffer.replaced
 
-pub undoing_begins : (buffer : Buffer) (mark : WriteMark) (writes replaced : List (ℕ × ℕ)) → IsMark buffer mark → AreApart buffer.writes
+pub undoing_begins : (buffer : Buffer) (mark : WriteMark) (writes replaced : List (ℕ × ℕ)) → IsMark buffer mark
     → writes ≡ take mark.entries buffer.writes → replaced ≡ buffer.replaced → IsUndoing buffer mark writes replaced
 unfolding at_mark
-undoing_begins buffer mark writes replaced is apart kept same =
+undoing_begins buffer mark writes replaced is kept same =
     let entries : length (take mark.entries buffer.writes) ≡ mark.entries = length-take-le mark.entries buffer.writes is.entries in
     record {
       going_back = rw (kept, same) refl;
       older = rw same refl;
       left = rw same is.restores;
-      apart = rw kept (AreApart_take mark.entries buffer.writes apart);
       entries = rw kept (omega (arith, entries, is.entries));
       restores = rw same (omega arith);
     }
@@ -42,7 +40,6 @@ undoing_goes_on buffer mark writes replaced after rest index former more popped 
           ∙ undoing.going_back);
       older = sym (take-append-le mark.restores rest ((index, former) ∷ []) within) ∙ sym (ap (take mark.restores) popped) ∙ undoing.older;
       left = within;
-      apart = rw given (AreApart_with_value writes index former undoing.apart);
       entries = rw given (omega (arith, length-set writes index ((slice_index_or writes index (0, 0)).0, former), undoing.entries));
       restores = omega (arith, undoing.restores);
     }

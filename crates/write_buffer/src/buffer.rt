@@ -1,12 +1,14 @@
 //! A list of writes to distinct cells. It can be rolled back to a mark, since each value that is replaced
-//! is kept.
-ghost use Rattle.std.specs.Prelude.{◌≡◌, ◌≢◌, ◌+◌, ◌<◌, ◌≤◌, ◌^◌, [], ◌∷◌, ◌++◌, length, nat_eq, slice_get, vec_capacity, Some, is_some, IsFalse, IsOk, IsTrue, MatchOption, OnErr, OnOk};
-ghost use Rattle.std.specs.List.{All, HoldsAt};
-ghost use Rattle.std.specs.Map.{lookup};
+//! is kept. Among many writes, a cell is found by an index.
+ghost use Rattle.std.specs.Prelude.{◌≡◌, ℕ, ◌+◌, ◌<◌, ◌≤◌, ◌^◌, [], ◌∷◌, ◌++◌, length, nat_eq, slice_get, take, vec_capacity, Some, is_some, IfSome, IsFalse, IsOk, IsTrue, OnErr, OnOk};
+ghost use Rattle.std.specs.Map.{keys_of, lookup};
+ghost use Rattle.cell_index.specs.Cells.{IsIndexOf};
 ghost use Rattle.stm_model.specs.Heap.{put, writes_to};
 ghost use Rattle.stm_model.specs.declared.marks.WriteMark.{WriteMark};
+ghost use Rattle.write_buffer.specs.Indexed.{IsIndexed, IsPlace};
 ghost use Rattle.write_buffer.specs.Buffer.{AreApart, IsMark, IsNoLater, Keeps, at_mark, with_value};
 
+use cell_index::{CellIndex, SMALL};
 use std::alloc::Global;
 use std::marker::Model;
 use stm_model::{Addr, Memory, WriteMark};
@@ -17,22 +19,26 @@ pub struct WriteBuffer {
     writes: Vec<(u32, u64)>,
     /// The values that were replaced, each with the index of its write.
     replaced: Vec<(usize, u64)>,
+    /// The written cells, once there are many.
+    index: CellIndex,
 }
 
 impl Model for WriteBuffer {
     ghost use Rattle.std.specs.Prelude.{◌-◌, length, vec_capacity};
-    ghost use Rattle.write_buffer.specs.Buffer.{AreApart, Buffer};
+    ghost use Rattle.cell_index.specs.Cells.{room_beside};
+    ghost use Rattle.write_buffer.specs.Indexed.{IsIndexed};
+    ghost use Rattle.write_buffer.specs.Buffer.{Buffer};
 
     ghost Value = { Buffer };
 
     ghost view = { λ b. record {
       writes = b.writes.items;
       replaced = b.replaced.items;
-      spare = vec_capacity b.writes - length b.writes.items;
+      spare = room_beside (vec_capacity b.writes) b.index - length b.writes.items;
       spare_rewrites = vec_capacity b.replaced - length b.replaced.items;
     } };
 
-    ghost invariant = { λ b. AreApart b.writes.items };
+    ghost invariant = { λ b. IsIndexed b.index b.writes.items };
 }
 
 impl WriteBuffer {
@@ -43,6 +49,7 @@ impl WriteBuffer {
         WriteBuffer {
             writes: Vec::new(alloc),
             replaced: Vec::new(alloc),
+            index: CellIndex::new(alloc),
         }
     }
 
@@ -59,13 +66,66 @@ impl WriteBuffer {
         ensures rewrite_room { IsTrue (writes_to self.old.writes addr.0) →
             (self.old.spare ≤ self.new.spare) × (self.old.spare_rewrites ≤ self.new.spare_rewrites + 1) }
     {
-        match index_of(self.writes.as_slice(), addr.0) {
-            Some(index) => {
-                self.replaced.push((index, self.writes[index].1))?;
-                self.writes[index] = (addr.0, value);
+        match self.place_of(addr) {
+            Some(place) => self.keep_and_set(place, value),
+            None => {
+                self.reserve_first_writes(1)?;
+                self.put_first(addr, value);
+                Ok(())
             }
-            None => self.writes.push((addr.0, value))?,
         }
+    }
+
+    /// Writes a cell that isn't written yet, where a first write is spare.
+    pub fn put_first(&mut self, addr: Addr, value: u64)
+        requires unwritten { IsFalse (writes_to self.old.writes addr.0) }
+        requires spare { 0 < self.old.spare }
+        ensures writes { self.new.writes ≡ put self.old.writes addr.0 value }
+        ensures marks { (mark : WriteMark) → IsMark self.old mark → Keeps self.old self.new mark }
+        ensures spare { self.old.spare ≡ self.new.spare + 1 }
+        ensures rewrites { self.new.spare_rewrites ≡ self.old.spare_rewrites }
+    {
+        self.writes.push_reserved((addr.0, value));
+        if self.writes.len() > SMALL {
+            catch_up(&mut self.index, self.writes.as_slice());
+        }
+    }
+
+    /// Writes a cell that is written already, for a caller who goes back to no mark that was taken after this
+    /// one. A cell that was first written after it keeps no former value, and takes no memory.
+    pub fn rewrite(&mut self, addr: Addr, value: u64, since: WriteMark) -> Result<(), Memory>
+        requires written { IsTrue (writes_to self.old.writes addr.0) }
+        requires mark { IsMark self.old since }
+        ensures ok { OnOk result (self.new.writes ≡ put self.old.writes addr.0 value) }
+        ensures err { OnErr result ((self.new.writes ≡ self.old.writes) × (self.new.replaced ≡ self.old.replaced)) }
+        ensures marks { (mark : WriteMark) → IsNoLater mark since → Keeps self.old self.new mark }
+        ensures keeps_none { IsFalse (writes_to (take since.entries self.old.writes) addr.0) →
+            IsOk result × (self.new.replaced ≡ self.old.replaced) × (self.old.spare_rewrites ≤ self.new.spare_rewrites) }
+        ensures succeeds { 0 < self.old.spare_rewrites → IsOk result }
+        ensures spare { self.old.spare ≤ self.new.spare }
+        ensures rewrites { self.old.spare_rewrites ≤ self.new.spare_rewrites + 1 }
+    {
+        let Some(place) = self.place_of(addr) else {
+            unreachable!()
+        };
+        if place < since.entries {
+            return self.keep_and_set(place, value);
+        }
+        set_value(&mut self.writes, place, value);
+        Ok(())
+    }
+
+    // Gives a write another value, and keeps its former one.
+    fn keep_and_set(&mut self, place: usize, value: u64) -> Result<(), Memory>
+        requires { place < length self.old.writes }
+        ensures ok { OnOk result (self.new.writes ≡ with_value self.old.writes place value) }
+        ensures err { OnErr result ((self.new.writes ≡ self.old.writes) × (self.new.replaced ≡ self.old.replaced)) }
+        ensures marks { (mark : WriteMark) → IsMark self.old mark → Keeps self.old self.new mark }
+        ensures succeeds { 0 < self.old.spare_rewrites → IsOk result }
+        ensures room { (self.old.spare ≤ self.new.spare) × (self.old.spare_rewrites ≤ self.new.spare_rewrites + 1) }
+    {
+        self.replaced.push((place, self.writes[place].1))?;
+        set_value(&mut self.writes, place, value);
         Ok(())
     }
 
@@ -74,8 +134,21 @@ impl WriteBuffer {
         ensures value { result ≡ lookup (nat_eq addr.0) self.now.writes }
         ensures written { writes_to self.now.writes addr.0 ≡ is_some result }
     {
-        let index = index_of(self.writes.as_slice(), addr.0)?;
-        Some(self.writes[index].1)
+        let place = self.place_of(addr)?;
+        Some(self.writes[place].1)
+    }
+
+    // Where the write of this cell stands, if there is one: along few writes, and by the index among many.
+    fn place_of(&self, addr: Addr) -> Option<usize>
+        ensures place { IsPlace self.now.writes addr.0 result }
+        ensures written { writes_to self.now.writes addr.0 ≡ is_some result }
+        ensures again { IfSome result (λ place. (value : ℕ) → put self.now.writes addr.0 value ≡ with_value self.now.writes place value) }
+    {
+        if self.writes.len() > SMALL {
+            self.index.find(addr.0)
+        } else {
+            place_along(self.writes.as_slice(), addr.0)
+        }
     }
 
     /// The write at this index.
@@ -119,9 +192,10 @@ impl WriteBuffer {
         ensures rewrites { self.old.spare_rewrites + length self.old.replaced ≤ self.new.spare_rewrites + length self.new.replaced }
     {
         self.writes.truncate(mark.entries);
+        self.index.truncate(mark.entries);
         while self.replaced.len() > mark.restores {
-            if let Some((index, former)) = self.replaced.pop() {
-                give_back(&mut self.writes, index, former);
+            if let Some((place, former)) = self.replaced.pop() {
+                set_value(&mut self.writes, place, former);
             }
         }
     }
@@ -130,7 +204,16 @@ impl WriteBuffer {
     pub fn spare_first_writes(&self) -> usize
         ensures { result ≡ self.now.spare }
     {
-        self.writes.capacity().saturating_sub(self.writes.len())
+        self.index
+            .room_beside(self.writes.capacity())
+            .saturating_sub(self.writes.len())
+    }
+
+    /// How many rewrites more take no memory.
+    pub fn spare_rewrites(&self) -> usize
+        ensures { result ≡ self.now.spare_rewrites }
+    {
+        self.replaced.capacity().saturating_sub(self.replaced.len())
     }
 
     /// Takes memory for so many first writes more and for as many rewrites.
@@ -158,26 +241,49 @@ impl WriteBuffer {
         ensures rewrites { self.old.spare_rewrites ≤ self.new.spare_rewrites }
     {
         self.writes.reserve(more)?;
+        self.index.reserve(self.writes.len() + more)?;
         Ok(())
+    }
+
+    /// Drops all writes and all marks, and keeps the memory for as many.
+    pub fn clear(&mut self)
+        ensures writes { self.new.writes ≡ [] }
+        ensures replaced { self.new.replaced ≡ [] }
+        ensures spare { self.new.spare ≡ self.old.spare + length self.old.writes }
+        ensures rewrites { self.new.spare_rewrites ≡ self.old.spare_rewrites + length self.old.replaced }
+    {
+        self.index.truncate(0);
+        self.writes.clear();
+        self.replaced.clear();
     }
 }
 
-// Where the write to this cell stands, if there is one.
-fn index_of(writes: &[(u32, u64)], address: u32) -> Option<usize>
-    ensures place { MatchOption result
-        (All (λ write. write.0 ≢ address) writes.now)
-        (λ index. (index < length writes.now) × HoldsAt (λ write. write.0 ≡ address) writes.now index) }
-    ensures written { writes_to writes.now address ≡ is_some result }
+// Where the write of this cell stands, by a search along the writes.
+fn place_along(writes: &[(u32, u64)], address: u32) -> Option<usize>
+    ensures { IsPlace writes.now address result }
 {
     writes.iter().position(|write| write.0 == address)
 }
 
-// Gives a write back its former value, if it is still there.
-fn give_back(writes: &mut Vec<(u32, u64)>, index: usize, former: u64)
-    ensures value { writes.new.items ≡ with_value writes.old.items index former }
+// Gives a write this value, if it is there.
+fn set_value(writes: &mut Vec<(u32, u64)>, place: usize, value: u64)
+    ensures value { writes.new.items ≡ with_value writes.old.items place value }
     ensures room { vec_capacity writes.new ≡ vec_capacity writes.old }
 {
-    if index < writes.len() {
-        writes[index].1 = former;
+    if place < writes.len() {
+        writes[place].1 = value;
+    }
+}
+
+// Puts the cells of the last writes, which the index lacks, into it.
+fn catch_up(index: &mut CellIndex, writes: &[(u32, u64)])
+    requires first { index.old.addresses ≡ take (length index.old.addresses) (keys_of writes.now) }
+    requires room { length writes.now ≤ index.old.room }
+    ensures indexed { IsIndexOf index.new (keys_of writes.now) }
+    ensures room { index.new.room ≡ index.old.room }
+{
+    while index.len() < writes.len() {
+        let write = writes[index.len()];
+        index.push(write.0);
     }
 }

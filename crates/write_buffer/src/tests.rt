@@ -1,9 +1,9 @@
-//! Each call once, undo over levels, room for first writes, and many writes.
+//! Each call once, undo over levels, room for first writes, rewrites, and many writes.
 ghost use Rattle.std.specs.Prelude.{◌<◌, ◌≤◌, IsOk};
 ghost use Rattle.stm_model.specs.declared.marks.WriteMark.{WriteMark};
 ghost use Rattle.write_buffer.specs.Buffer.{IsMark};
 
-use crate::{Addr, Memory, WriteBuffer};
+use crate::{Addr, Memory, WriteBuffer, WriteMark};
 use std::alloc::Global;
 use std::test::Fail;
 
@@ -71,7 +71,8 @@ fn write_once(buffer: &mut WriteBuffer, addr: Addr, value: u64) -> Result<bool, 
     if buffer.find(addr).is_some() {
         return Ok(false);
     }
-    buffer.put(addr, value)?;
+    buffer.reserve_first_writes(1)?;
+    buffer.put_first(addr, value);
     Ok(true)
 }
 
@@ -89,6 +90,37 @@ fn rewrites_come_between_first_writes(rt: HostRuntime) -> Result<(), Fail> {
         writes_of(rt.alloc(), &buffer)?.as_slice(),
         [(3, 99), (4, 1)].as_slice()
     );
+    Ok(())
+}
+
+// Writes a cell again, if it is written. It tells whether it did.
+fn rewrite_since(
+    buffer: &mut WriteBuffer,
+    addr: Addr,
+    value: u64,
+    since: WriteMark,
+) -> Result<bool, Memory>
+    requires { IsMark buffer.old since }
+    ensures { IsMark buffer.new since }
+{
+    if buffer.find(addr).is_none() {
+        return Ok(false);
+    }
+    buffer.rewrite(addr, value, since)?;
+    Ok(true)
+}
+
+#[test]
+fn a_rewrite_is_undone(rt: HostRuntime) -> Result<(), Fail> {
+    let mut buffer = WriteBuffer::new(rt.alloc());
+    assert!(rt; write_once(&mut buffer, Addr(1), 1)?);
+    let since = buffer.mark();
+    assert!(rt; rewrite_since(&mut buffer, Addr(1), 2, since)?);
+    assert_eq!(rt; buffer.find(Addr(1)), Some(2));
+    buffer.undo(since);
+    assert_eq!(rt; buffer.find(Addr(1)), Some(1));
+    buffer.clear();
+    assert_eq!(rt; buffer.len(), 0);
     Ok(())
 }
 

@@ -1,12 +1,15 @@
-use Rattle.std.proofs.Common.{◌≡◌, nat_eq, rules, tests}
-use Rattle.std.specs.List.{find}
-use Rattle.std.specs.Option.{option_map}
-use Rattle.std.proofs.lemmas.Iterator.{YieldsList-from_slice}
-use Rattle.std.proofs.lemmas.Iterator.Search.{find_from_yields_List}
+use Rattle.std.proofs.Common.{ap, ◌∙◌}
+use Rattle.stm_model.specs.After.{note_of}
+use Rattle.read_set.specs.Reads.{Reads}
+use Rattle.read_set.proofs.Among.{note_cases}
 use Rattle.read_set.proofs.read_set.ReadSet.find.Goals as goal
 
-pub returns-clause-value : goal.returns-clause-value
-returns-clause-value c =
-    let found : option_map (λ note. note.now) c.find.result ≡ find (λ note. nat_eq note.addr.0 c.args.addr.0) c.deref.result.now =
-    find_from_yields_List (λ note. nat_eq note.addr.0 c.args.addr.0) _ _ _ c.find.ensures.ran (YieldsList-from_slice c.deref.result.now cc) (λ x b q k. search (rules, tests)) in
-    rw (c.copied.ensures, ← c.self.view_is, ← c.deref.ensures.value) found
+pub returns-then-len-gt-SMALL-clause-cases : goal.returns-then-len-gt-SMALL-clause-cases
+returns-then-len-gt-SMALL-clause-cases c =
+    note_cases _ c.args.addr c.find_by_index.result
+    (c.find_by_index.ensures ∙ ap (λ notes. note_of notes c.args.addr.0) c.as_slice.ensures.value ∙ ap (λ (r : Reads). note_of r.notes c.args.addr.0) c.self.view_is)
+
+pub returns-else-len-gt-SMALL-clause-cases : goal.returns-else-len-gt-SMALL-clause-cases
+returns-else-len-gt-SMALL-clause-cases c =
+    note_cases _ c.args.addr c.find_along.result
+    (c.find_along.ensures ∙ ap (λ notes. note_of notes c.args.addr.0) c.as_slice-else-len-gt-SMALL.ensures.value ∙ ap (λ (r : Reads). note_of r.notes c.args.addr.0) c.self.view_is)

@@ -7,6 +7,10 @@ pub returns-in_err-reserve-clause-marks : goal.returns-in_err-reserve-clause-mar
 returns-in_err-reserve-clause-marks c =
     Keeps_same _ _ (c.in_err-reserve.ensures.items ∙ ap (λ (b : Buffer). b.writes) c.self.view_is) (ap (λ (b : Buffer). b.replaced) c.self.view_is)
 
+pub returns-in_err-reserve-2-clause-marks : goal.returns-in_err-reserve-2-clause-marks
+returns-in_err-reserve-2-clause-marks c =
+    Keeps_same _ _ (c.in_ok-reserve.ensures.items ∙ ap (λ (b : Buffer). b.writes) c.self.view_is) (ap (λ (b : Buffer). b.replaced) c.self.view_is)
+
 pub returns-clause-marks : goal.returns-clause-marks
 returns-clause-marks c =
     Keeps_same _ _ (c.in_ok-reserve.ensures.items ∙ ap (λ (b : Buffer). b.writes) c.self.view_is) (ap (λ (b : Buffer). b.replaced) c.self.view_is)
