@@ -1,5 +1,6 @@
 -- What an attempt does next keeps what it promises.
-use Rattle.std.proofs.Common.{◌≡◌, ℕ, IfSome, IsSome, List, [], ◌∷◌, length, Option, Some, None, refl, sym, ap, ◌∙◌, subst, arith}
+use Rattle.std.proofs.Common.{◌≡◌, ◌<◌, ℕ, IfSome, IsSome, List, [], ◌∷◌, length, Option, Some, None, refl, sym, ap, ◌∙◌, subst, arith}
+use Rattle.stm_core.proofs.Asking.{late_there}
 use Rattle.stm_core.proofs.Shown.{at_rest, next_is, shown_alike}
 use Rattle.stm_core.proofs.Stands.{IsBelow, stands}
 use Rattle.stm_core.specs.Machine.{ClockFits, IsAtRest, MayTake, Promises, Waits, after_due, made, named, next_of, over, standing}
@@ -54,23 +55,27 @@ over_promises t (Some ending) result rests is =
     let same : result ≡ coming.Reply (reply.Ended ending) = cc in
     subst (Promises t) (sym same) (rests ending same)
 
+-- where a before-commit body has its turn, one has had it
+abbrev IsLateThere : Attempt → Type 0
+IsLateThere t = (token : ℕ) → t.stage ≡ Late token → 0 < t.turn
+
 stage_promises : (t : Attempt) (stage : Stage) (result : Next) → t.due ≡ [] → t.stage ≡ stage → IsBelow (next t) t.settings.clock →
-    ((ending : Ending) → result ≡ coming.Reply (reply.Ended ending) → IsAtRest t ending) → standing t stage ≡ Some result → Promises t result
+    ((ending : Ending) → result ≡ coming.Reply (reply.Ended ending) → IsAtRest t ending) → IsLateThere t → standing t stage ≡ Some result → Promises t result
 unfolding standing next_at AwaitsAskAt
-stage_promises t (Ready None) result nothing here below rests is = carried (Promises t) is (waits t (Ready None) nothing here tt refl)
-stage_promises t (Ready (Some value)) result nothing here below rests is = carried (Promises t) is (waits t (Ready (Some value)) nothing here tt refl)
-stage_promises t (Late token) result nothing here below rests is = carried (Promises t) is (waits t (Late token) nothing here tt refl, here)
-stage_promises t (Stopped cause) result nothing here below rests is = carried (Promises t) is (waits t (Stopped cause) nothing here tt refl)
-stage_promises t Ended result nothing here below rests is = over_promises t t.ending result rests is
-stage_promises t stage result nothing here below rests is = acts_promise t _ result (next_is t nothing ∙ ap (next_at t) here) below is
+stage_promises t (Ready None) result nothing here below rests late is = carried (Promises t) is (waits t (Ready None) nothing here tt refl)
+stage_promises t (Ready (Some value)) result nothing here below rests late is = carried (Promises t) is (waits t (Ready (Some value)) nothing here tt refl)
+stage_promises t (Late token) result nothing here below rests late is = carried (Promises t) is (record { waits = waits t (Late token) nothing here tt refl; stage = here; turn = late token here })
+stage_promises t (Stopped cause) result nothing here below rests late is = carried (Promises t) is (record { waits = waits t (Stopped cause) nothing here tt refl; stage = here })
+stage_promises t Ended result nothing here below rests late is = over_promises t t.ending result rests is
+stage_promises t stage result nothing here below rests late is = acts_promise t _ result (next_is t nothing ∙ ap (next_at t) here) below is
 
 -- What is due comes before all that.
 due_promises : (t : Attempt) (dues : List Due) (result : Next) → t.due ≡ dues → IsBelow (next t) t.settings.clock →
-    (t.due ≡ [] → (ending : Ending) → result ≡ coming.Reply (reply.Ended ending) → IsAtRest t ending) → after_due dues (standing t t.stage) ≡ Some result → Promises t result
+    (t.due ≡ [] → (ending : Ending) → result ≡ coming.Reply (reply.Ended ending) → IsAtRest t ending) → IsLateThere t → after_due dues (standing t t.stage) ≡ Some result → Promises t result
 unfolding after_due
-due_promises t [] result none below rests is = stage_promises t t.stage result none refl below (rests none) is
-due_promises t (Run phase token ∷ dues) result some below rests is = carried (Promises t) is (record { behind = dues; first = some; some = omega (arith, ap length some) })
-due_promises t (Ring cell ∷ dues) result some below rests is = carried (Promises t) is (record { behind = dues; first = some; some = omega (arith, ap length some) })
+due_promises t [] result none below rests late is = stage_promises t t.stage result none refl below (rests none) late is
+due_promises t (Run phase token ∷ dues) result some below rests late is = carried (Promises t) is (record { behind = dues; first = some; some = omega (arith, ap length some) })
+due_promises t (Ring cell ∷ dues) result some below rests late is = carried (Promises t) is (record { behind = dues; first = some; some = omega (arith, ap length some) })
 
 -- nothing that it makes, where something is due, is the exchange of the clock
 below_next : (t : Attempt) (dues : List Due) → t.due ≡ dues → IsBelow (next_at t t.stage) t.settings.clock → IsBelow (next t) t.settings.clock
@@ -83,4 +88,4 @@ promises r result sound is ends =
     let t = shown r in
     let alike = shown_alike r sound in
     let below = subst (λ (limit : ℕ). IsBelow (next_at t t.stage) limit) (sym (ap (λ settings. settings.clock) alike.settings)) (stands r r.state sound.holds).below in
-    due_promises t t.due result refl (below_next t t.due refl below) (λ nothing ending same. at_rest r ending (ends ending same) nothing) is
+    due_promises t t.due result refl (below_next t t.due refl below) (λ nothing ending same. at_rest r ending (ends ending same) nothing) (late_there r sound) is

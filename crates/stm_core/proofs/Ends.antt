@@ -1,5 +1,5 @@
 -- What an operation shows once it has ended.
-use Rattle.std.proofs.Common.{◌≡◌, true, List, [], ◌++◌, Option, Some, None, refl, sym, ap, ◌∙◌, subst, append-nil}
+use Rattle.std.proofs.Common.{◌≡◌, ℕ, true, List, ◌++◌, Option, Some, refl, sym, subst}
 use Rattle.op_commit.specs.Acquire as acquire
 use Rattle.op_commit.specs.Back as rollback
 use Rattle.op_commit.specs.Commit as commit
@@ -24,8 +24,8 @@ use Rattle.op_commit.specs.Buffered.{ring_for}
 use Rattle.stm_model.specs.After.{at, final_runs, run_all}
 use Rattle.stm_model.specs.Attempt.{Attempt, Due, Ended}
 use Rattle.stm_model.specs.declared.cause.Addr.{Addr}
-use Rattle.stm_model.specs.declared.ending.Ending.{Ending}
-use Rattle.stm_model.specs.declared.ending.Ending.TheVariants.{Committed, Read as ToRead, Rolled}
+use Rattle.stm_model.specs.declared.ending.Ending.TheVariants.{Committed}
+use Rattle.op_commit.specs.declared.commit.CommitEnd.TheVariants.{Stamp}
 use Rattle.op_read.specs.declared.read.ReadEnd.{ReadEnd}
 use Rattle.op_read.specs.declared.read.ReadPlace.{ReadPlace}
 use Rattle.op_read.specs.declared.read.ReadPlace.TheVariants as at_read
@@ -60,26 +60,30 @@ whatever_due op t dues commits = record { own = commits.own; serial = commits.se
 pub whatever_is_due : (op : BackOp) (t : Attempt) (dues : List Due) → rollback.IsBacking op t → rollback.IsBacking op (record t { due = dues })
 whatever_is_due op t dues backs = record { own = backs.own; serial = backs.serial }
 
--- ---- no handlers
+-- ---- the end of a rollback
 
-no_final_runs : (ending : Option Ending) → run_all (final_runs ending []) ≡ []
+back_ends_at : (rung : Option Addr) (t : Attempt) (end : BackEnd) →
+    rollback.backing_at (at_back.Ended end) true (record t { due = rollback.due_at (at_back.Ended end) true rung t }) ≡ at (record t { phase = Idle; due = ring_for rung ++ run_all (final_runs t.ending t.now.hooks) }) Ended
+back_ends_at rung t end = refl
+
+pub back_ends : (op : BackOp) (t : Attempt) (end : BackEnd) → op.place ≡ at_back.Ended end → op.whole ≡ true →
+    rollback.backing op (record t { due = rollback.due_by op t }) ≡ at (record t { phase = Idle; due = ring_for op.rung ++ run_all (final_runs t.ending t.now.hooks) }) Ended
+back_ends op t end place whole =
+    let ended : Attempt = at (record t { phase = Idle; due = ring_for op.rung ++ run_all (final_runs t.ending t.now.hooks) }) Ended in
+    subst (λ p. rollback.backing_at p op.whole (record t { due = rollback.due_at p op.whole op.rung t }) ≡ ended) (sym place)
+    (subst (λ w. rollback.backing_at (at_back.Ended end) w (record t { due = rollback.due_at (at_back.Ended end) w op.rung t }) ≡ ended) (sym whole)
+    (back_ends_at op.rung t end))
+
+-- ---- the end of a commit
+
+commit_ends_at : (writes stamp : ℕ) (rung : Option Addr) (t : Attempt) →
+    commit.committing_at (at_commit.Ended (Stamp stamp)) writes (record t { due = commit.due_at (at_commit.Ended (Stamp stamp)) rung t })
+    ≡ at (record t { phase = Idle; ending = Some (Committed stamp); due = ring_for rung ++ run_all (final_runs (Some (Committed stamp)) t.now.hooks) }) Ended
 unfolding final_runs
-no_final_runs None = refl
-no_final_runs (Some (Committed stamp)) = refl
-no_final_runs (Some (ToRead prefix)) = refl
-no_final_runs (Some (Rolled cause prefix)) = refl
+commit_ends_at writes stamp rung t = refl
 
--- Where no handler is registered, a ring alone is due at the end of a rollback.
-due_at_end : (t : Attempt) (rung : Option Addr) → t.now.hooks ≡ [] → ring_for rung ++ run_all (final_runs t.ending t.now.hooks) ≡ ring_for rung
-due_at_end t rung none = ap (λ hooks. ring_for rung ++ run_all (final_runs t.ending hooks)) none ∙ ap (λ dues. ring_for rung ++ dues) (no_final_runs t.ending) ∙ append-nil (ring_for rung)
-
-back_ends_at : (rung : Option Addr) (t : Attempt) (end : BackEnd) → t.now.hooks ≡ [] →
-    rollback.backing_at (at_back.Ended end) true (record t { due = rollback.due_at (at_back.Ended end) true rung t }) ≡ at (record t { phase = Idle; due = ring_for rung }) Ended
-back_ends_at rung t end none = ap (λ dues. at (record t { phase = Idle; due = dues }) Ended) (due_at_end t rung none)
-
-pub back_ends : (op : BackOp) (t : Attempt) (end : BackEnd) → op.place ≡ at_back.Ended end → op.whole ≡ true → t.now.hooks ≡ [] →
-    rollback.backing op (record t { due = rollback.due_by op t }) ≡ at (record t { phase = Idle; due = ring_for op.rung }) Ended
-back_ends op t end place whole none =
-    subst (λ p. rollback.backing_at p op.whole (record t { due = rollback.due_at p op.whole op.rung t }) ≡ at (record t { phase = Idle; due = ring_for op.rung }) Ended) (sym place)
-    (subst (λ w. rollback.backing_at (at_back.Ended end) w (record t { due = rollback.due_at (at_back.Ended end) w op.rung t }) ≡ at (record t { phase = Idle; due = ring_for op.rung }) Ended) (sym whole)
-    (back_ends_at op.rung t end none))
+pub commit_ends : (op : CommitOp) (t : Attempt) (stamp : ℕ) → op.place ≡ at_commit.Ended (Stamp stamp) →
+    commit.committing op (record t { due = commit.due_by op t }) ≡ at (record t { phase = Idle; ending = Some (Committed stamp); due = ring_for op.rung ++ run_all (final_runs (Some (Committed stamp)) t.now.hooks) }) Ended
+commit_ends op t stamp place =
+    let ended : Attempt = at (record t { phase = Idle; ending = Some (Committed stamp); due = ring_for op.rung ++ run_all (final_runs (Some (Committed stamp)) t.now.hooks) }) Ended in
+    subst (λ p. commit.committing_at p op.writes (record t { due = commit.due_at p op.rung t }) ≡ ended) (sym place) (commit_ends_at op.writes stamp op.rung t)

@@ -1,9 +1,8 @@
 -- An operation that goes on makes an access next.
 use Rattle.std.proofs.Common.{◌≡◌, ℕ, false, IfSome, IsSome, Option, Some, None, [], refl, sym, ap, ◌∙◌, subst}
-use Rattle.op_commit.specs.Buffered.{ring_for}
 use Rattle.stm_core.proofs.Stands.{rests_at, stands}
 use Rattle.stm_core.specs.Machine.{after_due, made, named, next_of, standing}
-use Rattle.stm_core.specs.Running.{IsSound, attempt_at, base, ready, shown}
+use Rattle.stm_core.specs.Running.{IsSound, attempt_at, base, due_in, shown, standing_at}
 use Rattle.stm_core.specs.declared.next.Next.{Next}
 use Rattle.stm_core.specs.declared.next.Next.TheVariants as coming
 use Rattle.stm_core.specs.declared.next.Reply.{Reply}
@@ -36,24 +35,30 @@ makes t access result acts nothing same is =
     ∙ from_act (next_at t t.stage) access result acts (same ∙ ap (λ d. packed (unless_due d (next_at t t.stage))) nothing) is
 
 -- So it does in each state, unless it rests.
-pub goes : (r : Running) (access : Option Access) (result : Next) → IsSound r → rests_at r.state ≡ false → r.due ≡ None →
+pub goes : (r : Running) (access : Option Access) (result : Next) → IsSound r → rests_at r.state ≡ false → due_in r.due r.handlers.hooks ≡ [] →
     access ≡ next_access (shown r) → IfSome access (λ a. result ≡ named a) → next_of (shown r) ≡ Some result
 goes r access result sound going nothing =
     let here = stands r r.state sound.holds in
-    makes (shown r) access result (here.acts going) (here.same.due ∙ ap ring_for nothing)
+    makes (shown r) access result (here.acts going) (here.same.due ∙ nothing)
 
 -- It goes on where it neither waits nor is over.
-pub goes_on : (state : State) → ((told : Option ℕ) → state ≡ in_state.Ready told → ⊥) → ((cause : Cause) → state ≡ in_state.Stopped cause → ⊥) → ((ending : Ending) → state ≡ in_state.Ended ending → ⊥) →
-    rests_at state ≡ false
-goes_on (in_state.Ready told) ready stopped ended = absurd (ready told refl)
-goes_on (in_state.Stopped cause) ready stopped ended = absurd (stopped cause refl)
-goes_on (in_state.Ended ending) ready stopped ended = absurd (ended ending refl)
-goes_on state ready stopped ended = refl
+pub goes_on : (state : State) → ((told : Option ℕ) → state ≡ in_state.Ready told → ⊥) → ((token : ℕ) → state ≡ in_state.Late token → ⊥) → ((cause : Cause) → state ≡ in_state.Stopped cause → ⊥) →
+    ((hooks : ℕ) → state ≡ in_state.Undone hooks → ⊥) → ((ending : Ending) → state ≡ in_state.Ended ending → ⊥) → rests_at state ≡ false
+goes_on (in_state.Ready told) ready late stopped undone ended = absurd (ready told refl)
+goes_on (in_state.Late token) ready late stopped undone ended = absurd (late token refl)
+goes_on (in_state.Stopped cause) ready late stopped undone ended = absurd (stopped cause refl)
+goes_on (in_state.Undone hooks) ready late stopped undone ended = absurd (undone hooks refl)
+goes_on (in_state.Ended ending) ready late stopped undone ended = absurd (ended ending refl)
+goes_on state ready late stopped undone ended = refl
 
 -- Where it was told something, it replies that.
-pub replies : (r : Running) (told : Option ℕ) (result : Reply) → r.state ≡ in_state.Ready told → r.due ≡ None → ((t : Attempt) → standing t (Ready told) ≡ Some (coming.Reply result)) →
+pub replies : (r : Running) (told : Option ℕ) (result : Reply) → r.state ≡ in_state.Ready told → due_in r.due r.handlers.hooks ≡ [] → ((t : Attempt) → standing t (Ready told) ≡ Some (coming.Reply result)) →
     next_of (shown r) ≡ Some (coming.Reply result)
 unfolding attempt_at after_due
 replies r told result is nothing stands =
     subst (λ state. next_of (attempt_at (base r) state) ≡ Some (coming.Reply result)) (sym is)
-    (ap (λ due. after_due (ring_for due) (standing (ready r told) (Ready told))) nothing ∙ stands (ready r told))
+    (ap (λ dues. after_due dues (standing (standing_at r (Ready told)) (Ready told))) nothing ∙ stands (standing_at r (Ready told)))
+
+-- What is due comes before all that.
+pub due_comes : (r : Running) (result : Next) → IsSound r → ((behind : Option Next) → after_due (due_in r.due r.handlers.hooks) behind ≡ Some result) → next_of (shown r) ≡ Some result
+due_comes r result sound first = ap (λ dues. after_due dues (standing (shown r) (shown r).stage)) (stands r r.state sound.holds).same.due ∙ first _

@@ -1,9 +1,12 @@
 pub mod Allowing
 pub mod Asking
+pub mod Bodies
+pub mod Cuts
+pub mod Doing
 pub mod Ends
 pub mod Goes
 pub mod GoingOn
-pub mod Rings
-pub mod Room
+pub mod Marked
 pub mod Shown
+pub mod Spare
 pub mod Stands

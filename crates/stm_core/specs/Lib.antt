@@ -1,3 +1,4 @@
 pub mod Machine
-pub mod Rung
+pub mod Marked
+pub mod Past
 pub mod Running

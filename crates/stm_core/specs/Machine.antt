@@ -1,5 +1,5 @@
 -- What an attempt as a machine is to its callers.
-use Rattle.std.specs.Prelude.{◌≡◌, ◌≢◌, ℕ, ◌+◌, ◌*◌, ◌<◌, ◌≤◌, ◌^◌, false, if◌then◌else◌, IsFalse, IsSome, List, [], ◌∷◌, length, Option, Some, None}
+use Rattle.std.specs.Prelude.{◌≡◌, ◌≢◌, ℕ, ◌+◌, ◌*◌, ◌<◌, ◌≤◌, ◌^◌, ◌⊎◌, false, if◌then◌else◌, ◌||◌, is_some, IsFalse, IsSome, IsTrue, List, [], ◌∷◌, length, Option, Some, None}
 use Rattle.meta_word.specs.Policy.{looks}
 use Rattle.meta_word.specs.declared.meta.TheConstants.{MAX_VERSION}
 use Rattle.meta_word.specs.declared.status.Phase.TheVariants.{Idle}
@@ -9,12 +9,16 @@ use Rattle.stm_core.specs.declared.next.Reply.TheVariants as reply
 use Rattle.stm_model.specs.declared.access.Access.{Access}
 use Rattle.stm_model.specs.declared.access.Access.TheVariants.{Exchange, Load}
 use Rattle.stm_model.specs.declared.access.Ask.{Ask}
-use Rattle.stm_model.specs.declared.access.Ask.TheVariants.{Abandon, Enter, Finish, Get, Hook, Later, Set, Undo}
+use Rattle.stm_model.specs.declared.access.Ask.TheVariants.{Abandon, Finish, Get, Hook, Later, Set, Undo}
 use Rattle.stm_model.specs.declared.access.Word.TheVariants.{Clock}
+use Rattle.stm_model.specs.declared.cause.Cause.{Cause}
 use Rattle.stm_model.specs.declared.ending.Ending.{Ending}
 use Rattle.stm_model.specs.declared.settings.Settings.{Settings}
 use Rattle.stm_model.specs.Accesses.{Act, LoadClock, ExchangeClock, access_of, addr_of, next, next_at, packed}
 use Rattle.stm_model.specs.Attempt.{Attempt, Due, Ended, Late, Ready, Ring, Run, Stage, Stopped, cause_at, holds, is_in_flight}
+use Rattle.op_commit.specs.Back.{former_writes}
+use Rattle.stm_model.specs.After.{note_of, run_all}
+use Rattle.stm_model.specs.Handlers.{Handlers}
 use Rattle.stm_model.specs.Heap.{writes_to}
 use Rattle.stm_model.specs.Moves.{AwaitsAsk, OutOfMemory, MayRunOut, moved}
 
@@ -37,6 +41,7 @@ abbrev pub made : Option Access → Option Next
 made None = None
 made (Some access) = Some (named access)
 
+-- it is over, with this ending
 abbrev pub over : Option Ending → Option Next
 over None = None
 over (Some ending) = Some (coming.Reply (reply.Ended ending))
@@ -66,14 +71,6 @@ next_of t = after_due t.due (standing t t.stage)
 pub record SettingsFit (settings : Settings) : Type 0 where
   pub looks : looks settings.policy + 1 < 2 ^ 16
   pub clock : settings.clock ≤ MAX_VERSION
-
--- It takes these asks. Levels, handlers and late bodies aren't built yet.
-unfoldable pub IsBuilt : Ask → Type 0
-IsBuilt (Get cell) = Unit {0}
-IsBuilt (Set cell value) = Unit {0}
-IsBuilt Finish = Unit {0}
-IsBuilt (Abandon cause) = Unit {0}
-IsBuilt ask = ⊥
 
 -- What the clock shows is within the attempt's limit.
 unfoldable pub ClockFits : Attempt → Option Act → ℕ → Type 0
@@ -118,6 +115,17 @@ pub record Waits (t : Attempt) : Type 0 where
   pub awaits : AwaitsAsk t
   pub makes_none : next t ≡ None
 
+-- So it is, and a before-commit body has its turn.
+pub record IsLate (t : Attempt) (token : ℕ) : Type 0 where
+  pub waits : Waits t
+  pub stage : t.stage ≡ Late token
+  pub turn : 0 < t.turn
+
+-- So it is, and was refused with this cause.
+pub record IsRefusedWith (t : Attempt) (cause : Cause) : Type 0 where
+  pub waits : Waits t
+  pub stage : t.stage ≡ Stopped cause
+
 -- It is over: it owns no cell and has marked none, its status is stored as idle, and nothing is due.
 pub record IsAtRest (t : Attempt) (ending : Ending) : Type 0 where
   pub stage : t.stage ≡ Ended
@@ -133,9 +141,26 @@ Promises t (coming.Access access) = Makes t access
 Promises t (coming.Decide old) = Decides t old
 Promises t (coming.Run phase token) = IsDue t (Run phase token)
 Promises t (coming.Ring addr) = IsDue t (Ring addr.0)
-Promises t (coming.Before token) = Waits t × (t.stage ≡ Late token)
+Promises t (coming.Before token) = IsLate t token
+Promises t (coming.Reply (reply.Stopped cause)) = IsRefusedWith t cause
 Promises t (coming.Reply (reply.Ended ending)) = IsAtRest t ending
 Promises t (coming.Reply told) = Waits t
+
+-- ---- how it goes on after an ask
+
+-- It waits to be asked, or makes an access, or something is due.
+unfoldable pub IsOngoing : Attempt → Type 0
+IsOngoing t = AwaitsAsk t ⊎ (IsSome (next t) ⊎ (0 < length t.due))
+
+-- What may be due after an ask: handlers alone, and these only where a level is undone or the body ends.
+unfoldable pub DueAfter : Ask → List Due → Type 0
+DueAfter Undo dues = (hooks : Handlers) × (dues ≡ run_all hooks)
+DueAfter Finish dues = (hooks : Handlers) × (dues ≡ run_all hooks)
+DueAfter ask dues = dues ≡ []
+
+-- Something is due, or a before-commit body has its turn and the attempt waits to be asked by it.
+unfoldable pub IsToRun : Attempt → Type 0
+IsToRun t = (0 < length t.due) ⊎ (AwaitsAsk t × (0 < t.turn))
 
 -- ---- what doesn't change
 
@@ -153,11 +178,15 @@ pub record IsRefused (before : Attempt) (ask : Ask) (after : Attempt) : Type 0 w
   pub going : cause_at before.stage ≡ None
   pub stops : after ≡ moved before (OutOfMemory ask)
 
--- The ask takes no memory where so many first reads and first writes are spare.
+-- A cell is written, and none of these writes is its.
+pub record IsFirstSince (writes former : List (ℕ × ℕ)) (cell : ℕ) : Type 0 where
+  pub written : IsTrue (writes_to writes cell)
+  pub unwritten : IsFalse (writes_to former cell)
+
+-- The ask takes no memory where so many first reads and first writes are spare. A rewrite takes none where the cell was first written in the innermost level, or no level is open.
 abbrev pub TakesNoMemory : (reads writes : ℕ) → Attempt → Ask → Type 0
 TakesNoMemory reads writes t (Get cell) = 0 < reads
-TakesNoMemory reads writes t (Set cell value) = IsFalse (writes_to t.now.writes cell.0) × (0 < writes)
-TakesNoMemory reads writes t Enter = ⊥
+TakesNoMemory reads writes t (Set cell value) = (IsFalse (writes_to t.now.writes cell.0) × (0 < writes)) ⊎ IsFirstSince t.now.writes (former_writes t.saved) cell.0
 TakesNoMemory reads writes t (Hook phase token) = ⊥
 TakesNoMemory reads writes t (Later token) = ⊥
 TakesNoMemory reads writes t ask = Unit {0}
@@ -175,14 +204,14 @@ pub record HasSpare (reads writes : ℕ) (m : Machine) : Type 0 where
   pub for_reads : reads ≤ m.spare_reads
   pub for_writes : writes ≤ m.spare_writes
 
--- How many first reads, and how many first writes, an ask uses up at most.
-unfoldable pub reads_asked : Ask → ℕ
-reads_asked (Get cell) = 1
-reads_asked ask = 0
+-- How many first reads, and how many first writes, an ask uses up at most: those that it is one of.
+unfoldable pub reads_asked : Attempt → Ask → ℕ
+reads_asked t (Get cell) = if writes_to t.now.writes cell.0 || is_some (note_of t.notes cell.0) then 0 else 1
+reads_asked t ask = 0
 
-unfoldable pub writes_asked : Ask → ℕ
-writes_asked (Set cell value) = 1
-writes_asked ask = 0
+unfoldable pub writes_asked : Attempt → Ask → ℕ
+writes_asked t (Set cell value) = if writes_to t.now.writes cell.0 then 0 else 1
+writes_asked t ask = 0
 
 -- ---- how many accesses may follow an ask
 

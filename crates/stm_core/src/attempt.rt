@@ -1,27 +1,26 @@
 //! One attempt as a machine over accesses.
-ghost use Rattle.std.specs.Prelude.{◌≡◌, ◌<◌, ◌≤◌, ◌-◌, ◌^◌, ◌⊎◌, [], IsOk, IsSome, OnOk, Some, length};
+ghost use Rattle.std.specs.Prelude.{◌≡◌, ◌<◌, ◌≤◌, ◌+◌, ◌-◌, ◌^◌, ◌⊎◌, ◌↔◌, [], IsOk, IsTrue, OnOk, Some, length};
 ghost use Rattle.meta_word.specs.declared.meta.TheConstants.{MAX_OWNER};
 ghost use Rattle.meta_word.specs.declared.status.TheConstants.{MAX_SERIAL};
-ghost use Rattle.stm_core.specs.Machine.{HasSpare, IsBuilt, IsRefused, IsSameAttempt, MayTake, Promises, SettingsFit, TakesNoMemory, accesses_asked, next_of, reads_asked, writes_asked};
-ghost use Rattle.stm_model.specs.Accesses.{next};
+ghost use Rattle.stm_core.specs.Machine.{DueAfter, IsOngoing, IsToRun, HasSpare, IsRefused, IsSameAttempt, MayTake, Promises, SettingsFit, TakesNoMemory, accesses_asked, next_of, reads_asked, writes_asked};
 ghost use Rattle.stm_model.specs.After.{after_word};
 ghost use Rattle.stm_model.specs.Attempt.{Announce, Ended, Stopped, no_attempt};
-ghost use Rattle.stm_model.specs.Moves.{AwaitsAsk, Does, IsCall, MayAsk, Takes, moved};
+ghost use Rattle.stm_model.specs.Moves.{AwaitsAsk, Does, EndsLate, IsCall, MayAsk, Takes, moved};
 ghost use Rattle.stm_model.specs.declared.access.Ask.TheVariants.{Finish};
 ghost use Rattle.stm_model.specs.declared.cause.Cause.{Cause};
 
-use crate::next::Next;
+use crate::next::{Next, Room};
 use crate::running::Running;
 use read_set::ReadSet;
 use std::alloc::Global;
 use std::marker::Model;
-use stm_model::{Ask, Memory, Settings, Shown};
+use stm_model::{Ask, DEEPEST, Memory, Settings, Shown};
 use write_buffer::WriteBuffer;
 
-/// One attempt of a caller to run a transaction. It is asked for cells, and tells by `next` what it does:
-/// an access, whose answer it is given by `take`, or a ring, by which whoever waits for a cell is woken and
-/// which `ran` tells it was done, or a reply. It touches no shared memory, so the same machine runs on a
-/// shared table and under a written schedule.
+/// One attempt of a caller to run a transaction. It is asked for cells, levels and registrations, and tells by
+/// `next` what it does: an access, whose answer it is given by `take`; a handler to be run or a cell to be rung
+/// for, which `ran` tells was done; a before-commit body, which asks in its turn and whose end `ran` tells; or a
+/// reply. It touches no shared memory, so the same machine runs on a shared table and under a written schedule.
 #[derive(Drop)]
 pub struct Attempt {
     running: Running,
@@ -40,7 +39,8 @@ impl Model for Attempt {
 
 impl Attempt {
     /// The attempt of this number among those of its caller, before its first access. The caller's number is at
-    /// most `MAX_OWNER`, the attempt's at most `MAX_SERIAL`. It takes no memory yet.
+    /// most `MAX_OWNER`, the attempt's at most `MAX_SERIAL`. The policy grants at most 65,534 looks, and the
+    /// settings' clock is at most `MAX_VERSION`. It takes no memory yet.
     pub fn begin(alloc: Global, own: u16, serial: u64, settings: Settings) -> Attempt
         requires own { own ≤ MAX_OWNER }
         requires serial { serial ≤ MAX_SERIAL }
@@ -64,20 +64,45 @@ impl Attempt {
         self.running.reserve(reads, writes)
     }
 
-    /// Asks it for something, where its reply isn't the end. `Finish` ends the body, `Abandon` rolls it back with
-    /// a cause of the body's own or the one that it was refused with. Out of memory is the cause `Memory`.
-    /// After any cause each later ask of a cell leaves it as it is, so that the reply is the same.
+    /// How many first reads and first writes more can't be stopped by want of memory, beside one that is under
+    /// way. Only a first read lowers the one, and only a first write the other, by at most one.
+    pub fn room(&self) -> Room
+        ensures reads { result.reads ≡ self.now.spare_reads }
+        ensures writes { result.writes ≡ self.now.spare_writes }
+    {
+        self.running.room()
+    }
+
+    /// Begins the caller's next attempt with this one's memory, once this one is over. Its number is greater, and
+    /// at most `MAX_SERIAL`. It takes no memory, and has room for as many first reads and first writes more as it
+    /// had notes and writes.
+    pub fn again(&mut self, serial: u64)
+        requires over { self.old.attempt.stage ≡ Ended }
+        requires nothing_due { self.old.attempt.due ≡ [] }
+        requires greater { self.old.attempt.serial < serial }
+        requires serial { serial ≤ MAX_SERIAL }
+        ensures begins { self.new.attempt ≡ record (no_attempt self.old.attempt.own self.old.attempt.settings) { serial = serial; stage = Announce } }
+        ensures left { self.new.left ≡ 2 }
+        ensures room { HasSpare (self.old.spare_reads + length self.old.attempt.notes) (self.old.spare_writes + length self.old.attempt.now.writes) self.new }
+    {
+        self.running.again(serial);
+    }
+
+    /// Asks it for something, where its reply isn't the end. `Keep` and `Undo` need an open level, `Finish` ends
+    /// the body and comes before the before-commit bodies alone, and `Abandon` rolls it back with a cause of the
+    /// body's own or the one that it was refused with. At `DEEPEST` open levels one more is refused as too deep,
+    /// and out of memory is the cause `Memory`. After any cause each later call leaves it as it is, so that the
+    /// reply is the same, and `Keep` and `Undo` only close a level.
     pub fn ask(&mut self, ask: Ask)
         requires waits { AwaitsAsk self.old.attempt }
-        requires built { IsBuilt ask }
         requires may { MayAsk (2 ^ 32) self.old.attempt ask }
         ensures moves { (self.new.attempt ≡ moved self.old.attempt (Takes ask)) ⊎ IsRefused self.old.attempt ask self.new.attempt }
         ensures takes { TakesNoMemory self.old.spare_reads self.old.spare_writes self.old.attempt ask → self.new.attempt ≡ moved self.old.attempt (Takes ask) }
-        ensures goes_on { AwaitsAsk self.new.attempt ⊎ IsSome (next self.new.attempt) }
-        ensures due { self.new.attempt.due ≡ [] }
+        ensures goes_on { IsOngoing self.new.attempt }
+        ensures due { DueAfter ask self.new.attempt.due }
         ensures same { IsSameAttempt self.old.attempt self.new.attempt }
         ensures stays { (cause : Cause) → self.old.attempt.stage ≡ Stopped cause → IsCall ask → self.new.attempt ≡ self.old.attempt }
-        ensures room { HasSpare (self.old.spare_reads - reads_asked ask) (self.old.spare_writes - writes_asked ask) self.new }
+        ensures room { HasSpare (self.old.spare_reads - reads_asked self.old.attempt ask) (self.old.spare_writes - writes_asked self.old.attempt ask) self.new }
         ensures bound { self.new.left ≤ accesses_asked self.old.attempt ask }
     {
         self.running.ask(ask);
@@ -87,7 +112,6 @@ impl Attempt {
     pub fn next(&self) -> Next
         ensures next { next_of self.now.attempt ≡ Some result }
         ensures promises { Promises self.now.attempt result }
-        ensures finish { MayAsk (2 ^ 32) self.now.attempt Finish }
     {
         self.running.next()
     }
@@ -104,15 +128,39 @@ impl Attempt {
         self.running.take(answer);
     }
 
-    /// What came due was done: a cell was rung for.
+    /// What was due first was done: a handler was run, or a cell rung for. Where nothing is due, the before-commit
+    /// body that has its turn is over.
     pub fn ran(&mut self)
-        requires { 0 < length self.old.attempt.due }
-        ensures does { self.new.attempt ≡ moved self.old.attempt Does }
+        requires { IsToRun self.old.attempt }
+        ensures does { 0 < length self.old.attempt.due → self.new.attempt ≡ moved self.old.attempt Does }
+        ensures ends { AwaitsAsk self.old.attempt → self.new.attempt ≡ moved self.old.attempt EndsLate }
+        ensures goes_on { AwaitsAsk self.old.attempt → IsOngoing self.new.attempt }
+        ensures due { AwaitsAsk self.old.attempt → DueAfter Finish self.new.attempt.due }
         ensures same { IsSameAttempt self.old.attempt self.new.attempt }
-        ensures left { self.new.left ≡ self.old.left }
+        ensures left { 0 < length self.old.attempt.due → self.new.left ≡ self.old.left }
+        ensures bound { AwaitsAsk self.old.attempt → self.new.left ≤ accesses_asked self.old.attempt Finish }
         ensures room { HasSpare self.old.spare_reads self.old.spare_writes self.new }
     {
-        self.running.ring();
+        if self.running.has_due() {
+            self.running.do_first();
+        } else {
+            self.running.end_late();
+        }
+    }
+
+    /// How many levels are open, at most `DEEPEST`.
+    pub fn depth(&self) -> u32
+        ensures count { result ≡ length self.now.attempt.saved }
+        ensures within { result ≤ DEEPEST }
+    {
+        self.running.levels.depth()
+    }
+
+    /// Whether a before-commit body has its turn, or has had it: the body itself is over.
+    pub fn is_late(&self) -> bool
+        ensures { IsTrue result ↔ (0 < self.now.attempt.turn) }
+    {
+        self.running.turn > 0
     }
 
     /// What it has read.

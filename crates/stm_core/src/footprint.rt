@@ -1,5 +1,5 @@
 //! What an attempt has read and written, as notes.
-ghost use Rattle.std.specs.Prelude.{◌≡◌, ◌<◌};
+ghost use Rattle.std.specs.Prelude.{◌≡◌, ◌+◌, ◌<◌, [], length};
 
 use read_set::ReadSet;
 use stm_model::{Note, Notes};
@@ -10,6 +10,17 @@ use write_buffer::WriteBuffer;
 pub struct Footprint {
     pub reads: ReadSet,
     pub writes: WriteBuffer,
+}
+
+impl Footprint {
+    /// Drops what was read and written, and keeps the memory.
+    pub fn clear(&mut self)
+        ensures reads { (self.new.reads.notes ≡ []) × (self.new.reads.spare ≡ self.old.reads.spare + length self.old.reads.notes) }
+        ensures writes { (self.new.writes.writes ≡ []) × (self.new.writes.spare ≡ self.old.writes.spare + length self.old.writes.writes) }
+    {
+        self.reads.clear();
+        self.writes.clear();
+    }
 }
 
 /// The buffered cells as notes: each has the version 0 and its new value.

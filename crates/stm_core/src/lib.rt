@@ -4,14 +4,16 @@
 
 mod asks;
 mod attempt;
+mod due;
 mod footprint;
+mod levels;
 mod next;
-mod rung;
+mod past;
 mod running;
 mod takes;
 
 pub use attempt::Attempt;
 pub use footprint::{Footprint, Written};
-pub use next::{Next, Reply};
-pub use running::{Running, State};
+pub use next::{Next, Reply, Room};
+pub use running::{Dues, Running, State};
 pub use stm_model::{Ask, Ending};

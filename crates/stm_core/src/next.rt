@@ -15,6 +15,13 @@ pub enum Reply {
     Ended(Ending),
 }
 
+/// How many first reads and first writes more can't be stopped by want of memory.
+#[derive(Clone, Copy, Debug, PartialEq, Eq)]
+pub struct Room {
+    pub reads: usize,
+    pub writes: usize,
+}
+
 /// What an attempt does next.
 #[derive(Clone, Copy, Debug, PartialEq, Eq)]
 pub enum Next {
@@ -23,7 +30,7 @@ pub enum Next {
     Decide { old: u64 },
     /// A handler is to be run.
     Run { phase: HookPhase, token: u64 },
-    /// A before-commit body is to be run.
+    /// A before-commit body is to be run: it asks, and `ran` tells its end.
     Before { token: u64 },
     /// Who waits for the cell is to be woken.
     Ring(Addr),

@@ -2,25 +2,26 @@
 ghost use Rattle.std.specs.Prelude.{◌≡◌, ◌≢◌, ◌<◌, ◌≤◌, ◌+◌, ◌↔◌, IfOk, IfSome, IsOk, IsTrue, OnOk, Some, length};
 ghost use Rattle.meta_word.specs.declared.status.TheConstants.{MAX_SERIAL};
 ghost use Rattle.stm_core.specs.Machine.{HasSpare, named, next_of, standing};
-ghost use Rattle.stm_core.specs.Running.{Becomes, IsSound, NumbersFit, left_in, machine_of, reads_under_way, shown, writes_under_way};
+ghost use Rattle.stm_core.specs.Running.{IsSound, NumbersFit, left_in, machine_of, reads_under_way, shown, writes_under_way};
 ghost use Rattle.stm_core.specs.declared.next.Next.TheVariants as coming;
 ghost use Rattle.stm_core.specs.declared.next.Reply.{Reply as ReplyOf};
 ghost use Rattle.stm_core.specs.declared.next.Reply.TheVariants as reply;
 ghost use Rattle.stm_core.specs.declared.running.State.TheVariants as in_state;
 ghost use Rattle.stm_model.specs.Accesses.{StoreStatus, access_of, active, next_access};
 ghost use Rattle.stm_model.specs.Attempt.{Announce, Attempt, Ready, no_attempt};
-ghost use Rattle.stm_model.specs.Moves.{Does, moved};
 ghost use Rattle.stm_model.specs.declared.ending.Ending.{Ending as EndingOf};
 
 use crate::footprint::{Footprint, Written};
-use crate::next::{Next, Reply};
-use crate::rung::Rung;
+use crate::next::{Next, Reply, Room};
+use crate::past::Past;
+use lifecycle::{Handlers, Walk};
 use meta_word::{Phase, pack_status};
 use op_commit::{AcquireOp, BackOp, CommitOp};
 use op_read::{ExtendOp, ReadOp};
 use read_set::ReadSet;
 use std::alloc::Global;
 use stm_model::{Access, Addr, Cause, Ending, Memory, Meta, Settings, TxnStatus, Word};
+use txn_level::Levels;
 use write_buffer::WriteBuffer;
 
 /// The state of an attempt. In the middle of an operation it is that operation.
@@ -32,6 +33,8 @@ pub enum State {
     Begin,
     /// It waits to be asked, and has answered the last ask by this value or by none.
     Ready(Option<u64>),
+    /// A before-commit body has its turn, and it waits to be asked by it.
+    Late(u64),
     /// It was refused something.
     Stopped(Cause),
     Read(ReadOp),
@@ -46,6 +49,12 @@ pub enum State {
         op: AcquireOp,
         value: u64,
     },
+    /// It releases the cells that were first written in the innermost level, which is being undone.
+    Undo(BackOp),
+    /// A level was undone, and its handlers run. So many handlers were registered where it was entered.
+    Undone {
+        hooks: usize,
+    },
     Commit(CommitOp),
     /// It releases what it holds and ends so. It had begun to prepare, or not.
     RollBack {
@@ -54,6 +63,13 @@ pub enum State {
         prepared: bool,
     },
     Ended(Ending),
+}
+
+/// What is due before the next access: a cell to be rung for, and then handlers to be run.
+#[derive(Clone, Copy)]
+pub struct Dues {
+    pub ring: Option<Addr>,
+    pub runs: Option<Walk>,
 }
 
 /// An attempt as it is kept.
@@ -67,15 +83,19 @@ pub struct Running {
     /// All that it has read is from the heap that so many writers left. It is 0 before the clock is loaded.
     pub prefix: u64,
     pub footprint: Footprint,
-    /// The cell that is to be rung for.
-    pub due: Option<Addr>,
-    pub rung: Rung,
+    pub handlers: Handlers,
+    /// What stood where each open level was entered.
+    pub levels: Levels,
+    /// How many before-commit bodies have had their turn.
+    pub turn: usize,
+    pub due: Dues,
+    pub past: Past,
     pub state: State,
 }
 
 impl Running {
     /// An attempt before its first access.
-    #[tactic(auto, unfolding(crate::specs::Running::attempt_at, crate::specs::Running::InvariantAt, crate::specs::Running::left_at, crate::specs::Rung::cells_in))]
+    #[tactic(auto, unfolding(crate::specs::Running::attempt_at, crate::specs::Running::InvariantAt, crate::specs::Running::left_at, crate::specs::Past::books_in, crate::specs::Past::rings_in, crate::specs::Past::runs_in, crate::specs::Marked::AreMarked))]
     pub fn new(alloc: Global, own: u16, serial: u64, settings: Settings) -> Running
         requires { NumbersFit own serial settings }
         ensures shown { shown result ≡ record (no_attempt own settings) { serial = serial; stage = Announce } }
@@ -91,14 +111,20 @@ impl Running {
                 reads: ReadSet::new(alloc),
                 writes: WriteBuffer::new(alloc),
             },
-            due: None,
-            rung: Rung::Nothing,
+            handlers: Handlers::new(alloc),
+            levels: Levels::new(),
+            turn: 0,
+            due: Dues {
+                ring: None,
+                runs: None,
+            },
+            past: Past::Nothing,
             state: State::Announce,
         }
     }
 
     /// Takes memory for so many first reads and first writes more.
-    #[tactic(auto, using(crate::proofs::Room::sound_with_room, crate::proofs::Room::shown_with_room, crate::proofs::Room::left_with_room))]
+    #[tactic(auto, using(crate::proofs::Spare::keeps_own, crate::proofs::Spare::sound_with_room, crate::proofs::Spare::shown_with_room, crate::proofs::Spare::left_with_room))]
     pub fn reserve(&mut self, reads: usize, writes: usize) -> Result<(), Memory>
         requires { IsSound self.old }
         ensures shown { shown self.new ≡ shown self.old }
@@ -121,10 +147,46 @@ impl Running {
     pub fn has_spare(&self, reads: usize, writes: usize) -> bool
         ensures { IsTrue result ↔ HasSpare reads writes (machine_of self.now) }
     {
+        let room = self.room();
+        reads <= room.reads && writes <= room.writes
+    }
+
+    /// How many first reads and first writes are spare, beside one that is under way.
+    pub fn room(&self) -> Room
+        ensures reads { result.reads ≡ (machine_of self.now).spare_reads }
+        ensures writes { result.writes ≡ (machine_of self.now).spare_writes }
+    {
         let spare_reads = self.footprint.reads.spare();
         let spare_writes = self.footprint.writes.spare_first_writes();
-        reads <= spare_reads.saturating_sub(self.reads_under_way())
-            && writes <= spare_writes.saturating_sub(self.writes_under_way())
+        Room {
+            reads: spare_reads.saturating_sub(self.reads_under_way()),
+            writes: spare_writes.saturating_sub(self.writes_under_way()),
+        }
+    }
+
+    /// The next attempt of the caller, before its first access. What the former one had is dropped, and its
+    /// memory kept.
+    #[tactic(auto, unfolding(crate::specs::Running::attempt_at, crate::specs::Running::InvariantAt, crate::specs::Running::left_at, crate::specs::Running::reads_under_way, crate::specs::Running::writes_under_way, crate::specs::Past::books_in, crate::specs::Past::rings_in, crate::specs::Past::runs_in, crate::specs::Marked::AreMarked))]
+    pub fn again(&mut self, serial: u64)
+        requires sound { IsSound self.old }
+        requires serial { serial ≤ MAX_SERIAL }
+        ensures shown { shown self.new ≡ record (no_attempt self.old.own self.old.settings) { serial = serial; stage = Announce } }
+        ensures sound { IsSound self.new }
+        ensures left { left_in self.new ≡ 2 }
+        ensures room { HasSpare ((machine_of self.old).spare_reads + length self.old.footprint.reads.notes) ((machine_of self.old).spare_writes + length self.old.footprint.writes.writes) (machine_of self.new) }
+    {
+        self.serial = serial;
+        self.prefix = 0;
+        self.footprint.clear();
+        self.handlers.clear();
+        self.levels.clear();
+        self.turn = 0;
+        self.due = Dues {
+            ring: None,
+            runs: None,
+        };
+        self.past = Past::Nothing;
+        self.state = State::Announce;
     }
 
     // How many first reads are under way. Their room is theirs.
@@ -149,21 +211,6 @@ impl Running {
         }
     }
 
-    /// The cell that was due was rung for.
-    #[tactic(auto, using(crate::proofs::Rings::rings_one, crate::proofs::Rings::holds_then))]
-    pub fn ring(&mut self)
-        requires sound { IsSound self.old }
-        requires due { 0 < length (shown self.old).due }
-        ensures becomes { Becomes (moved (shown self.old) Does) (left_in self.old) self.old self.new }
-        ensures left { left_in self.new ≡ left_in self.old }
-        ensures room { HasSpare (machine_of self.old).spare_reads (machine_of self.old).spare_writes (machine_of self.new) }
-    {
-        if let Some(addr) = self.due {
-            self.due = None;
-            self.rung.add(addr);
-        }
-    }
-
     /// What it does next.
     #[tactic(auto, unfolding(crate::specs::Running::attempt_at, crate::specs::Machine::standing, crate::specs::Machine::after_due))]
     pub fn next(&self) -> Next
@@ -171,12 +218,14 @@ impl Running {
         ensures next { next_of (shown self.now) ≡ Some result }
         ensures over { (ending : EndingOf) → result ≡ coming.Reply (reply.Ended ending) → self.now.state ≡ in_state.Ended ending }
     {
-        if let Some(addr) = self.due {
-            return Next::Ring(addr);
+        if let Some(due) = self.next_due() {
+            return due;
         }
         match self.state {
             State::Ready(told) => Next::Reply(answered(told)),
+            State::Late(token) => Next::Before { token },
             State::Stopped(cause) => Next::Reply(Reply::Stopped(cause)),
+            State::Undone { .. } => Next::Reply(Reply::Ready),
             State::Ended(ending) => Next::Reply(Reply::Ended(ending)),
             _ => made(self.access()),
         }
@@ -188,7 +237,7 @@ impl Running {
         requires { IsSound self.now }
         ensures { result ≡ next_access (shown self.now) }
     {
-        if self.due.is_some() {
+        if self.has_due() {
             return None;
         }
         match self.state {
@@ -198,8 +247,12 @@ impl Running {
             State::Extend { op, .. } => op.next(&self.footprint.reads),
             State::Acquire { op, .. } => op.next(&self.footprint.reads),
             State::Commit(op) => op.next(&self.footprint),
-            State::RollBack { op, .. } => op.next(&self.written()),
-            State::Ready(_) | State::Stopped(_) | State::Ended(_) => None,
+            State::Undo(op) | State::RollBack { op, .. } => op.next(&self.written()),
+            State::Ready(_)
+            | State::Late(_)
+            | State::Stopped(_)
+            | State::Undone { .. }
+            | State::Ended(_) => None,
         }
     }
 

@@ -2,22 +2,26 @@
 //! is carried out.
 ghost use Rattle.std.specs.Prelude.{◌≡◌, ◌<◌, ◌+◌, ◌-◌, ◌++◌, ◌∷◌, [], IsFalse, Some, length, unwrap_or};
 ghost use Rattle.meta_word.specs.declared.meta.Meta.{Meta};
-ghost use Rattle.meta_word.specs.declared.status.Phase.TheVariants.{Active};
+ghost use Rattle.lifecycle.specs.StageRuns.{stage_runs};
+ghost use Rattle.meta_word.specs.declared.status.Phase.TheVariants.{Active, Idle};
 ghost use Rattle.op_commit.specs.Acquire.{acquiring, wrote};
 ghost use Rattle.op_commit.specs.Acquire.{accesses_left as left_to_acquire};
-ghost use Rattle.op_commit.specs.Commit.{committing, due_by, phase_refused};
+ghost use Rattle.op_commit.specs.Buffered.{ring_for};
+ghost use Rattle.op_commit.specs.Commit.{IsStop, committing, due_by, phase_refused};
 ghost use Rattle.op_commit.specs.Commit.{ClockFits as CommitClockFits, accesses_left as left_to_commit};
 ghost use Rattle.op_read.specs.Read.{IsToExtend, end_of_read, reading};
 ghost use Rattle.op_read.specs.Read.{accesses_left as left_to_read};
 ghost use Rattle.op_read.specs.declared.read.ReadEnd.TheVariants.{NeedExtension};
 ghost use Rattle.stm_core.specs.Machine.{HasSpare, MayTake};
-ghost use Rattle.stm_core.specs.Running.{Becomes, HasRoomFor, IsAcquiring, IsCommitting, IsFree, IsIn, IsReading, IsSound, NumbersFit, TakesAnswer, base, closing, machine_of, shown};
+ghost use Rattle.stm_core.specs.Running.{Becomes, Fits, HasRoomFor, HasRuns, IsAcquiring, IsCommitting, IsFree, IsIn, IsReading, IsSound, TakesAnswer, base, closing, machine_of, shown};
 ghost use Rattle.stm_core.specs.declared.running.State.TheVariants as in_state;
-ghost use Rattle.stm_model.specs.After.{answer_with, at, roll_on, rolled};
-ghost use Rattle.stm_model.specs.Attempt.{ReadValue};
+ghost use Rattle.stm_model.specs.After.{answer_with, at, final_runs, roll_on, rolled, run_all};
+ghost use Rattle.stm_model.specs.Attempt.{Ended, ReadValue};
+ghost use Rattle.stm_model.specs.Handlers.{Handlers};
 ghost use Rattle.stm_model.specs.Heap.{writes_to};
 
-use crate::running::{Running, State};
+use crate::running::{Dues, Running, State};
+use lifecycle::{Stage, Walk};
 use op_commit::{AcquireEnd, AcquireOp, BackEnd, BackOp, CommitEnd, CommitOp};
 use op_read::{ExtendEnd, ExtendOp, ReadEnd, ReadOp};
 use stm_model::{Addr, Cause, Ending, Meta, Note};
@@ -40,13 +44,18 @@ impl Running {
             State::Read(op) => self.take_read(op, answer),
             State::Extend { read, first, op } => self.take_extension(read, first, op, answer),
             State::Acquire { op, value } => self.take_acquire(op, value, answer),
+            State::Undo(op) => self.take_undo(op, answer),
             State::Commit(op) => self.take_commit(op, answer),
             State::RollBack {
                 op,
                 ending,
                 prepared,
             } => self.take_roll_back(op, ending, prepared, answer),
-            State::Ready(_) | State::Stopped(_) | State::Ended(_) => {}
+            State::Ready(_)
+            | State::Late(_)
+            | State::Stopped(_)
+            | State::Undone { .. }
+            | State::Ended(_) => {}
         }
     }
 
@@ -92,8 +101,7 @@ impl Running {
         ensures becomes { Becomes (answer_with (record (base self.old) { notes = self.old.footprint.reads.notes ++ note ∷ [] }) note.value) 0 self.old self.new }
         ensures room { HasSpare (self.old.footprint.reads.spare - 1) self.old.footprint.writes.spare (machine_of self.new) }
     {
-        // Its room was made when the read was asked for.
-        let _ = self.footprint.reads.add(note);
+        self.footprint.reads.add_spare(note);
         self.state = State::Ready(Some(note.value));
     }
 
@@ -159,8 +167,7 @@ impl Running {
         ensures becomes { Becomes (wrote (base self.old) addr.0 value) 0 self.old self.new }
         ensures room { HasSpare self.old.footprint.reads.spare (self.old.footprint.writes.spare - 1) (machine_of self.new) }
     {
-        // Its room was made when the write was asked for.
-        let _ = self.footprint.writes.put(addr, value);
+        self.footprint.writes.put_first(addr, value);
         self.state = State::Ready(None);
     }
 
@@ -182,22 +189,49 @@ impl Running {
         ensures becomes { Becomes (committing op (record (base self.old) { due = due_by op (base self.old) })) (left_to_commit op (length self.old.footprint.reads.notes) + (length self.old.footprint.writes.writes + 1)) self.old self.new }
         ensures room { HasSpare self.old.footprint.reads.spare self.old.footprint.writes.spare (machine_of self.new) }
     {
-        self.due = op.rings();
+        self.due = Dues {
+            ring: op.rings(),
+            runs: None,
+        };
         match op.end() {
             None => self.state = State::Commit(op),
-            Some(CommitEnd::Prepared | CommitEnd::Decided { .. }) => {
-                let mut op = op;
-                op.resume();
-                self.state = State::Commit(op);
-            }
-            Some(CommitEnd::Stamp(stamp)) => self.state = State::Ended(Ending::Committed { stamp }),
+            Some(CommitEnd::Prepared) => self.resume_commit(op, Stage::Preparing),
+            Some(CommitEnd::Decided { .. }) => self.resume_commit(op, Stage::Committing),
+            Some(CommitEnd::Stamp(stamp)) => self.end(Ending::Committed { stamp }),
             Some(CommitEnd::Bad { cause, prefix }) => self.fail_commit(cause, prefix),
         }
     }
 
+    // Goes on from a stop, once the handlers of this stage have run.
+    fn resume_commit(&mut self, op: CommitOp, stage: Stage)
+        requires fits { Fits self.old }
+        requires runs { self.old.due.runs ≡ None }
+        requires commits { IsCommitting self.old op }
+        requires stop { IsStop op.place }
+        ensures becomes { Becomes (committing op (record (base self.old) { due = ring_for self.old.due.ring ++ run_all (stage_runs stage self.old.handlers.hooks) })) (left_to_commit op (length self.old.footprint.reads.notes) + (length self.old.footprint.writes.writes + 1)) self.old self.new }
+        ensures room { HasSpare self.old.footprint.reads.spare self.old.footprint.writes.spare (machine_of self.new) }
+    {
+        let mut op = op;
+        op.resume();
+        self.due.runs = self.runs_of(Walk::new(stage, 0));
+        self.state = State::Commit(op);
+    }
+
+    // It is over, and its last handlers come due.
+    fn end(&mut self, ending: Ending)
+        requires fits { Fits self.old }
+        requires runs { self.old.due.runs ≡ None }
+        ensures becomes { Becomes (at (record (base self.old) { phase = Idle; ending = Some ending; due = ring_for self.old.due.ring ++ run_all (final_runs (Some ending) self.old.handlers.hooks) }) Ended) 0 self.old self.new }
+        ensures room { HasSpare self.old.footprint.reads.spare self.old.footprint.writes.spare (machine_of self.new) }
+    {
+        self.due.runs = self.runs_of(Walk::new(last_stage(ending), 0));
+        self.state = State::Ended(ending);
+    }
+
     // A commit failed, at this prefix where there is a new one.
     fn fail_commit(&mut self, cause: Cause, prefix: Option<u64>)
-        requires { NumbersFit self.old.own self.old.serial self.old.settings }
+        requires fits { Fits self.old }
+        requires runs { self.old.due.runs ≡ None }
         ensures becomes { Becomes (rolled (record (base self.old) { phase = phase_refused cause Active; prefix = unwrap_or prefix self.old.prefix }) cause) (length self.old.footprint.writes.writes + 1) self.old self.new }
         ensures room { HasSpare self.old.footprint.reads.spare self.old.footprint.writes.spare (machine_of self.new) }
     {
@@ -215,7 +249,8 @@ impl Running {
     /// Releases each written cell, stores the status as idle, and ends so. That it has prepared says that its
     /// status was stored as preparing, which matters to what it shows alone.
     pub fn roll_back(&mut self, ending: Ending, prepared: bool)
-        requires { NumbersFit self.old.own self.old.serial self.old.settings }
+        requires fits { Fits self.old }
+        requires runs { HasRuns self.old.due.runs self.old.handlers.hooks }
         ensures becomes { Becomes (roll_on (closing (base self.old) ending prepared) self.old.footprint.writes.writes) (length self.old.footprint.writes.writes + 1) self.old self.new }
         ensures room { HasSpare self.old.footprint.reads.spare self.old.footprint.writes.spare (machine_of self.new) }
         ensures due { self.new.due ≡ self.old.due }
@@ -234,7 +269,10 @@ impl Running {
     {
         let mut op = op;
         op.take(&self.written(), answer);
-        self.due = op.rings();
+        self.due = Dues {
+            ring: op.rings(),
+            runs: None,
+        };
         match op.end() {
             None => {
                 self.state = State::RollBack {
@@ -243,7 +281,18 @@ impl Running {
                     prepared,
                 };
             }
-            Some(BackEnd::Back) => self.state = State::Ended(ending),
+            Some(BackEnd::Back) => self.end(ending),
         }
+    }
+}
+
+// Which handlers run once an attempt has ended so.
+#[tactic(auto, unfolding(stm_model::specs::After::final_runs))]
+fn last_stage(ending: Ending) -> Stage
+    ensures { (hooks : Handlers) → stage_runs result hooks ≡ final_runs (Some ending) hooks }
+{
+    match ending {
+        Ending::Rolled { .. } => Stage::AfterRollback,
+        Ending::Committed { .. } | Ending::Read { .. } => Stage::AfterCommit,
     }
 }

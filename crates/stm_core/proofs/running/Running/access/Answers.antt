@@ -1,6 +1,9 @@
-use Rattle.std.proofs.Common.{sym}
-use Rattle.stm_core.proofs.Shown.{makes_none_due}
+use Rattle.std.proofs.Common.{refl, sym}
+use Rattle.stm_core.proofs.Shown.{makes_none_due, shown_alike}
+use Rattle.stm_core.specs.Running.{due_in, shown}
 use Rattle.stm_core.proofs.running.Running.access.Goals as goal
 
-pub returns-then-is_some : goal.returns-then-is_some
-returns-then-is_some c = sym (makes_none_due c.args.self.now c.requires (sym c.if-is_some.ensures))
+pub returns-then-has_due : goal.returns-then-has_due
+returns-then-has_due c =
+    let r = c.args.self.now in
+    sym (makes_none_due (shown r) (due_in r.due r.handlers.hooks) (shown_alike r c.requires).due (c.if-has_due.ensures.some refl))

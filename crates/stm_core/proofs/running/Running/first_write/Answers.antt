@@ -1,4 +1,5 @@
-use Rattle.std.proofs.Common.{refl, rules, sym, arith}
+use Rattle.std.proofs.Common.{inr, refl, rules, sym, arith}
+use Rattle.stm_core.proofs.Marked.{marked_while_kept}
 use Rattle.stm_core.specs.Running.{InvariantAt, attempt_at, left_at, reads_under_way, writes_under_way}
 use Rattle.stm_core.specs.Machine.{accesses_asked, reads_asked, writes_asked}
 use Rattle.stm_model.specs.Moves.{MayRunOut, asked_going}
@@ -12,10 +13,10 @@ returns-in-Ok c = record {
   asked = record {
     left = search rules;
     room = search rules;
-    nothing_due = c.requires.free.nothing_due;
     numbers = record { own = refl; serial = refl; settings = refl };
     sound = record {
-      fits = c.requires.free.fits;
+      fits = record { numbers = c.requires.free.fits.numbers; marks = marked_while_kept _ _ _ _ _ c.reserve_first_writes.ensures.marks c.requires.free.fits.marks };
+      runs = rw c.requires.free.nothing_due tt;
       holds = (
         record {
           made_for = c.new-op.ensures.for_attempt _ refl refl (sym c.noted_version-noted.ensures);
@@ -25,6 +26,23 @@ returns-in-Ok c = record {
         },
         rw c.new-op.ensures.going refl,
       );
+    };
+  };
+}
+
+pub returns-in-Err : goal.returns-in-Err
+unfolding InvariantAt attempt_at left_at reads_under_way writes_under_way accesses_asked reads_asked writes_asked asked_going MayRunOut
+returns-in-Err c = record {
+  moves = λ stage. inr (tt, rw c.reserve_first_writes.ensures.same refl);
+  takes = search rules;
+  asked = record {
+    left = omega arith;
+    room = search rules;
+    numbers = record { own = refl; serial = refl; settings = refl };
+    sound = record {
+      fits = record { numbers = c.requires.free.fits.numbers; marks = marked_while_kept _ _ _ _ _ c.reserve_first_writes.ensures.marks c.requires.free.fits.marks };
+      runs = rw c.requires.free.nothing_due tt;
+      holds = tt;
     };
   };
 }

@@ -16,6 +16,7 @@ returns-in-Some-NeedExtension-clause-becomes c =
       numbers = record { own = refl; serial = refl; settings = refl };
       sound = record {
         fits = c.requires.free.fits;
+        runs = rw c.requires.free.nothing_due tt;
         holds = (
           record {
             made_for = c.new.ensures.for_attempt _ refl;

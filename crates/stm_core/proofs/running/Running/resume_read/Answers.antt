@@ -10,6 +10,7 @@ returns-clause-becomes c = λ first is. record {
   numbers = record { own = refl; serial = refl; settings = refl };
   sound = record {
     fits = c.requires.free.fits;
+    runs = rw c.requires.free.nothing_due tt;
     holds = (record { made_for = c.resume.ensures.for_attempt _ (sym c.requires.own) refl; room = rw c.resume.ensures.cell c.requires.room }, rw c.resume.ensures.going refl);
   };
 }

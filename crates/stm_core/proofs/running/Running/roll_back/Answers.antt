@@ -9,7 +9,8 @@ returns-clause-becomes c = record {
   left = c.new.ensures.bound _;
   numbers = record { own = refl; serial = refl; settings = refl };
   sound = record {
-    fits = c.requires;
+    fits = c.requires.fits;
+    runs = c.requires.runs;
     holds = (
       record {
         made_for = c.new.ensures.for_attempt _ refl refl;

@@ -11,6 +11,7 @@ returns-in-None c = let made = c.requires.holds.0 in record {
   numbers = record { own = refl; serial = refl; settings = refl };
   sound = record {
     fits = c.requires.fits;
+    runs = rw c.requires.nothing_due tt;
     holds = (
       record {
         made_for = c.take.ensures.same _ made.made_for;

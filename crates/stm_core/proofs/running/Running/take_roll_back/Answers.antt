@@ -16,6 +16,7 @@ returns-in-None c = let made = c.requires.holds.0 in record {
   numbers = record { own = refl; serial = refl; settings = refl };
   sound = record {
     fits = c.requires.fits;
+    runs = tt;
     holds = (
       record {
         made_for = whatever_is_due _ _ _ (c.take.ensures.same _ made.made_for);
@@ -35,10 +36,11 @@ returns-in-Some-Back c = let made = c.requires.holds.0 in
     let over : op.place ≡ Ended c.in-Some-Back.field-0 = back_over op.place c.in-Some-Back.field-0 (sym c.end.ensures ∙ c.in-Some-Back.is) in
     let nothing : t.due ≡ [] = rw c.requires.nothing_due refl in
     let made_for : IsBacking c.args.op t = record { own = made.made_for.own; serial = made.made_for.serial } in
+    let becomes = c.end-in-Some-Back.ensures.becomes in
     record {
-      shows = rw c.rings-self.ensures (sym (c.take.ensures.after t nothing made_for (rw c.written.ensures refl) ∙ back_ends op t c.in-Some-Back.field-0 over (c.take.ensures.whole ∙ made.whole) refl));
+      shows = becomes.shows ∙ rw c.rings.ensures (sym (c.take.ensures.after t nothing made_for (rw c.written.ensures refl) ∙ back_ends op t c.in-Some-Back.field-0 over (c.take.ensures.whole ∙ made.whole)));
       falls = search rules;
-      room = record { for_reads = omega arith; for_writes = omega arith };
-      numbers = record { own = refl; serial = refl; settings = refl };
-      sound = record { fits = c.requires.fits; holds = tt };
+      room = record { for_reads = omega (arith, c.end-in-Some-Back.ensures.room.for_reads); for_writes = omega (arith, c.end-in-Some-Back.ensures.room.for_writes) };
+      numbers = record { own = becomes.numbers.own; serial = becomes.numbers.serial; settings = becomes.numbers.settings };
+      sound = becomes.sound;
     }

@@ -1,11 +1,12 @@
-use Rattle.std.proofs.Common.{◌≡◌, ◌+◌, ◌∙◌, inl, ◌++◌, length, refl, rules, sym, ap, arith}
-use Rattle.std.proofs.lemmas.List.{length-append, length-map}
+use Rattle.std.proofs.Common.{◌≡◌, ◌+◌, ◌++◌, ◌∙◌, inl, [], drop, length, refl, rules, sym, ap, arith}
+use Rattle.std.proofs.lemmas.List.{drop_all, length-append, length-map}
 use Rattle.op_commit.specs.Buffered.{buffered}
 use Rattle.stm_core.proofs.Asking.{concludes}
 use Rattle.stm_core.specs.Machine.{accesses_asked, reads_asked, writes_asked}
-use Rattle.stm_core.specs.Running.{InvariantAt, attempt_at, base, left_at, ready, reads_under_way, writes_under_way}
-use Rattle.stm_model.specs.Moves.{asked_going}
-use Rattle.stm_core.proofs.running.Running.finish.Goals as goal
+use Rattle.stm_core.specs.Running.{InvariantAt, attempt_at, base, left_at, reads_under_way, standing_at, writes_under_way}
+use Rattle.stm_model.specs.Attempt.{Stage}
+use Rattle.stm_model.specs.Moves.{asked_going, turn_to}
+use Rattle.stm_core.proofs.running.Running.conclude.Goals as goal
 
 pub returns-else-count-eq0 : goal.returns-else-count-eq0
 unfolding InvariantAt attempt_at left_at reads_under_way writes_under_way accesses_asked reads_asked writes_asked asked_going
@@ -13,16 +14,19 @@ returns-else-count-eq0 c =
     let r = c.args.self.now in
     let many : length (buffered r.footprint.writes.writes ++ r.footprint.reads.notes) ≡ length r.footprint.writes.writes + length r.footprint.reads.notes =
     length-append (buffered r.footprint.writes.writes) r.footprint.reads.notes ∙ ap (λ n. n + length r.footprint.reads.notes) (length-map r.footprint.writes.writes _) in
+    let last : drop r.turn r.handlers.laters ≡ [] = drop_all r.turn r.handlers.laters c.requires.last in
+    let commits : (stage : Stage) → _ = λ stage. c.new.ensures.begins (base r)
+    ∙ sym (ap (turn_to (standing_at r stage)) last ∙ concludes (standing_at r stage) r.footprint.writes.writes (λ none. c.if-count-eq0.false (c.len-count.ensures.count ∙ none))) in
     record {
-      moves = λ told. inl (c.new.ensures.begins (base r) ∙ sym (concludes (ready r told) r.footprint.writes.writes (λ none. c.if-count-eq0.false (c.len-count.ensures.count ∙ none))));
-      takes = λ told free. c.new.ensures.begins (base r) ∙ sym (concludes (ready r told) r.footprint.writes.writes (λ none. c.if-count-eq0.false (c.len-count.ensures.count ∙ none)));
+      moves = λ stage. inl (commits stage);
+      takes = λ stage free. commits stage;
       asked = record {
         left = search rules;
         room = search rules;
-        nothing_due = c.requires.nothing_due;
         numbers = record { own = refl; serial = refl; settings = refl };
         sound = record {
-          fits = c.requires.fits;
+          fits = c.requires.free.fits;
+          runs = rw c.requires.free.nothing_due tt;
           holds = (
             record {
               made_for = c.new.ensures.for_attempt _ refl refl refl refl (sym c.len-count.ensures.count);
