@@ -1,18 +1,18 @@
 -- What an ask makes of a simulation.
-use Rattle.std.proofs.Common.{◌≡◌, ℕ, ◌-◌, ◌<◌, ◌≤◌, ◌^◌, ◌⊎◌, inl, inr, List, [], length, Option, Some, None, ap, sym, ◌∙◌, refl, subst, arith}
-use Rattle.stm_core.specs.Machine.{IsBuilt, IsRefused, Machine, after_due, next_of, standing}
+use Rattle.std.proofs.Common.{◌≡◌, ℕ, ◌-◌, ◌<◌, ◌≤◌, ◌^◌, ◌⊎◌, inl, inr, List, [], get_or, length, Option, Some, None, ap, sym, ◌∙◌, refl, subst, arith}
+use Rattle.stm_core.specs.Machine.{IsRefused, Machine, after_due, next_of, standing}
 use Rattle.stm_core.specs.declared.next.Next.{Next}
 use Rattle.stm_core.specs.declared.next.Next.TheVariants.{Reply}
 use Rattle.stm_core.specs.declared.next.Reply.TheVariants as reply
 use Rattle.stm_model.specs.Attempt.{Attempt, Due, Late, Ready, Stage, Stopped, cause_at}
-use Rattle.stm_model.specs.Moves.{AwaitsAsk, AwaitsAskAt, OutOfMemory, May, MayAsk, Takes, moved}
+use Rattle.stm_model.specs.Moves.{AwaitsAsk, AwaitsAskAt, EndsLate, OutOfMemory, May, MayAsk, Takes, moved}
 use Rattle.stm_model.specs.World.{IsCaller, Moves, cells_in}
 use Rattle.stm_model.specs.declared.access.Ask.{Ask}
-use Rattle.stm_model.specs.declared.access.Ask.TheVariants.{Abandon, Finish, Get, Set}
+use Rattle.stm_model.specs.declared.access.Ask.TheVariants.{Abandon, Finish, Get, Keep, Set, Undo}
 use Rattle.stm_model.specs.declared.cause.Cause.{Cause}
-use Rattle.world_run.specs.Simulation.{Simulation, Happens, HasSameTerms, InvariantOn, IsAskable, attempt_in, latest, machine_at, terms_in}
-use Rattle.world_run.specs.Places.{IsAsked, MayBeAsked, TakesAsk}
-use Rattle.world_run.proofs.Flats.{flat_lacks, flat_takes}
+use Rattle.stm_model.specs.declared.settings.Settings.{Settings}
+use Rattle.world_run.specs.Simulation.{Simulation, Happens, HasSameTerms, InvariantOn, IsAskable, WaitsLate, attempt_in, latest, machine_at, terms_in}
+use Rattle.world_run.specs.Places.{HasLate, IsAsked, IsPastLate, MayBeAsked, TakesAsk}
 use Rattle.world_run.proofs.Seats.{Follows}
 use Rattle.world_run.proofs.Turns.{Seat, moves, own_seat, reseats, stands, was_own}
 
@@ -36,34 +36,36 @@ waiting : (t : Attempt) (due : List Due) → due ≡ [] → after_due due (stand
 unfolding after_due
 waiting t due none = rw none refl
 
-module _ (size : ℕ) (t : Attempt) (told : Next) (is : Some told ≡ next_of t) (first : t.turn ≡ 0) where
+module _ (size : ℕ) (t : Attempt) (told : Next) (is : Some told ≡ next_of t) where
   replied : AwaitsAsk t → Some told ≡ standing t t.stage
   replied waits = is ∙ waiting t t.due waits.nothing_due
 
-  may_ask : (ask : Ask) → AwaitsAsk t → TakesAsk size told ask → IsBuilt ask × MayAsk size t ask
-  unfolding TakesAsk IsBuilt MayAsk
-  may_ask (Get cell) waits takes = (tt, takes)
-  may_ask (Set cell value) waits takes = (tt, takes)
-  may_ask Finish waits takes = (tt, first)
-  may_ask (Abandon cause) waits (inl own) = (tt, inl own)
-  may_ask (Abandon cause) waits (inr same) = (tt, inr (told_cause t t.stage cause waits.stands (sym (replied waits) ∙ ap Some same)))
-  may_ask ask waits takes = absurd takes
+  may_ask : (ask : Ask) → AwaitsAsk t → TakesAsk size t told ask → MayAsk size t ask
+  unfolding TakesAsk MayAsk
+  may_ask (Get cell) waits takes = takes
+  may_ask (Set cell value) waits takes = takes
+  may_ask Keep waits takes = takes
+  may_ask Undo waits takes = takes
+  may_ask Finish waits takes = takes
+  may_ask (Abandon cause) waits (inl own) = inl own
+  may_ask (Abandon cause) waits (inr same) = inr (told_cause t t.stage cause waits.stands (sym (replied waits) ∙ ap Some same))
+  may_ask ask waits takes = tt
 
-  pub is_askable : (ask : Ask) → AwaitsAsk t → TakesAsk size told ask → IsAskable size t ask
-  is_askable ask waits takes =
-      let may = may_ask ask waits takes in
-      record { waits = waits; built = may.0; able = may.1 }
+  pub is_askable : (ask : Ask) → AwaitsAsk t → TakesAsk size t told ask → IsAskable size t ask
+  is_askable ask waits takes = record { waits = waits; able = may_ask ask waits takes }
 
-  pub takes_ask : (ask : Ask) → IsAskable size t ask → TakesAsk size told ask
-  unfolding TakesAsk IsBuilt MayAsk
+  pub takes_ask : (ask : Ask) → IsAskable size t ask → TakesAsk size t told ask
+  unfolding TakesAsk MayAsk
   takes_ask (Get cell) askable = askable.able
   takes_ask (Set cell value) askable = askable.able
-  takes_ask Finish askable = tt
+  takes_ask Keep askable = askable.able
+  takes_ask Undo askable = askable.able
+  takes_ask Finish askable = askable.able
   takes_ask (Abandon cause) askable = elim askable.able [
     | inl own ↦ inl own
     | inr refused ↦ inr (let same : Some told ≡ Some (Reply (reply.Stopped cause)) = replied askable.waits ∙ cause_told t t.stage cause refused in cc)
   ]
-  takes_ask ask askable = absurd askable.built
+  takes_ask ask askable = tt
 
 -- More cells may be asked for where there are more.
 may_more : (size limit : ℕ) (t : Attempt) (ask : Ask) → size ≤ limit → MayAsk size t ask → MayAsk limit t ask
@@ -74,7 +76,7 @@ may_more size limit t ask low may = may
 
 -- ---- the ask
 
-seat_waits : {L : Type 0} (c : Simulation L) (p : ℕ) → AwaitsAskAt (attempt_in c p).stage → Seat c p
+pub seat_waits : {L : Type 0} (c : Simulation L) (p : ℕ) → AwaitsAskAt (attempt_in c p).stage → Seat c p
 unfolding AwaitsAskAt
 seat_waits c p waits = go (machine_at c p) refl
   where
@@ -94,7 +96,6 @@ module _ {L : Type 0} {lawful : L → List ℕ → Type 0} {may : L → List ℕ
         stands = stands old p caller seat;
         askable = subst (λ (t : Attempt). IsAskable (2 ^ 32) t ask) (own_seat seat) (record {
           waits = askable.waits;
-          built = askable.built;
           able = may_more (length before.opening) (2 ^ 32) (attempt_in before p) ask low askable.able;
         });
       }
@@ -117,8 +118,8 @@ module _ {L : Type 0} {lawful : L → List ℕ → Type 0} {may : L → List ℕ
 
     pub asks : Follows lawful may count clock before (Moves p (Takes ask)) after ⊎ Follows lawful may count clock before (Moves p (OutOfMemory ask)) after
     asks = elim takes_own [
-      | inl is ↦ inl (moves old p caller (Takes ask) may_take (reseats old p caller terms asked.changes) words history is (flat_takes t ask askable.built (old.whole.flat p caller)))
-      | inr refused ↦ inr (moves old p caller (OutOfMemory ask) (may_refuse refused) (reseats old p caller terms asked.changes) words history refused.stops (flat_lacks t ask (old.whole.flat p caller)))
+      | inl is ↦ inl (moves old p caller (Takes ask) may_take (reseats old p caller terms asked.changes) words history is)
+      | inr refused ↦ inr (moves old p caller (OutOfMemory ask) (may_refuse refused) (reseats old p caller terms asked.changes) words history refused.stops)
     ]
 
     pub asked_happens : Happens lawful may before (Moves p (Takes ask)) after ⊎ Happens lawful may before (Moves p (OutOfMemory ask)) after
@@ -132,3 +133,32 @@ module _ {L : Type 0} {lawful : L → List ℕ → Type 0} {may : L → List ℕ
       | inl takes ↦ takes.invariant
       | inr refuses ↦ refuses.invariant
     ]
+
+-- ---- a before-commit body is over
+
+-- Who has no attempt doesn't wait.
+pub nobody_waits : {A : Type 0} (settings : Settings) (p : ℕ) (machines : List (Option Machine)) (found : Option Machine) → found ≡ get_or machines (p - 1) found → found ≡ None
+    → AwaitsAsk (latest settings p (get_or machines (p - 1) None)) → A
+unfolding AwaitsAskAt
+nobody_waits settings p machines found same none waits =
+    let named = rw none at same in
+    let here : get_or machines (p - 1) None ≡ None = sym named in
+    absurd (rw here at waits.stands)
+
+module _ {L : Type 0} {lawful : L → List ℕ → Type 0} {may : L → List ℕ → List ℕ → Type 0} {count clock : ℕ} {before : Simulation L}
+    (old : InvariantOn lawful may count clock before) (p : ℕ) (caller : IsCaller (terms_in before) p) (late : WaitsLate (attempt_in before p)) where
+  pub has_late : HasLate before.machines (p - 1)
+  has_late = let seat = seat_waits before p late.waits.stands in record {
+    machine = seat.machine;
+    stands = stands old p caller seat;
+    waits = subst (λ (t : Attempt). WaitsLate t) (own_seat seat) late;
+  }
+
+  module _ {after : Simulation L} (terms : HasSameTerms before after) (words : after.words ≡ before.words) (history : after.history ≡ before.history)
+      (past : IsPastLate before.machines after.machines (p - 1)) where
+    may_end : May (cells_in (terms_in before)) (terms_in before).limit (attempt_in before p) EndsLate
+    unfolding May
+    may_end = (late.waits, late.late)
+
+    pub ends_late : Follows lawful may count clock before (Moves p EndsLate) after
+    ends_late = moves old p caller EndsLate may_end (reseats old p caller terms past.changes) words history (subst (λ (t : Attempt). past.now.attempt ≡ moved t EndsLate) (was_own old p caller past.changes) past.attempt)

@@ -1,5 +1,5 @@
 -- An attempt that has begun to commit or to roll back goes on so until it is over.
-use Rattle.std.proofs.Common.{◌≡◌, ◌⊎◌, inl, inr, ℕ, suc, Bool, true, false, nat_eq, nat_lt, List, [], ◌∷◌, drop, IsTrue, Some, None, ap, sym, ◌∙◌, refl, if◌then◌else◌}
+use Rattle.std.proofs.Common.{◌≡◌, ◌⊎◌, inl, inr, ℕ, suc, ◌<◌, Bool, true, false, nat_eq, nat_lt, List, [], ◌∷◌, drop, IsTrue, Option, Some, None, ap, sym, ◌∙◌, refl, if◌then◌else◌, arith}
 use Rattle.meta_word.specs.Meta.{still_has}
 use Rattle.meta_word.specs.declared.status.Phase.TheVariants.{Preparing}
 use Rattle.stm_core.specs.Machine.{next_of}
@@ -7,14 +7,17 @@ use Rattle.stm_model.specs.Accesses.{Answer, Number, OfMeta, OfStatus, active, n
 use Rattle.meta_word.specs.Status.{same_status}
 use Rattle.stm_model.specs.After.{after, after_at, validate_on, note_validated, decided, mark_on, prepared, release_on, ring_if, roll_on, rolled, run_all, store_on}
 use Rattle.stm_model.specs.Attempt.{Attempt, Due, Run, Ring, Stage, Write, Announce, Begin, Ready, Late, Stopped, ReadMeta, ExtendClock, ExtendNote, ReadValue, Validate, AcquireMeta, Acquire, OwnerStatus, OwnerMeta, DoomOwner, ReleaseLevel, Prepare, Mark, CommitClock, CommitNote, Decide, StoreValues, Release, RollBack, Close, Ended}
+use Rattle.stm_model.specs.HandlerRuns.{is_rolled}
 use Rattle.stm_model.specs.Handlers.{committing, preparing}
-use Rattle.stm_model.specs.Moves.{AwaitsAsk, AwaitsAskAt, Does, Takes, asked_at, asked_going, asked_stopped, conclude, did_first, moved, turn_to}
-use Rattle.stm_model.specs.declared.access.Ask.TheVariants.{Finish}
+use Rattle.stm_model.specs.Moves.{AwaitsAsk, AwaitsAskAt, Does, EndsLate, OutOfMemory, Takes, asked_at, asked_going, asked_stopped, conclude, did_first, late_over_at, moved, turn_to}
+use Rattle.stm_model.specs.declared.access.Ask.{Ask}
+use Rattle.stm_model.specs.declared.access.Ask.TheVariants.{Abandon, Finish}
 use Rattle.stm_model.specs.declared.cause.Cause.{Cause}
+use Rattle.stm_model.specs.declared.ending.Ending.{Ending}
 use Rattle.stm_model.specs.declared.ending.Ending.TheVariants.{Committed, Rolled}
 use Rattle.stm_model.specs.declared.note.Note.{Note}
-use Rattle.world_run.specs.Simulation.{IsFlat, IsOver, replies}
-use Rattle.world_run.specs.Run.{IsClosing}
+use Rattle.world_run.specs.Going.{IsClosing, LostAt}
+use Rattle.world_run.specs.Simulation.{IsOver, replies}
 use Rattle.world_run.proofs.Nexts.{is_quiet}
 
 abbrev Closing : Attempt → Type 0
@@ -44,7 +47,7 @@ unfolding IsClosing
 roll_closing t [] = tt
 roll_closing t (write ∷ behind) = tt
 
-rolled_closing : (t : Attempt) (cause : Cause) → Closing (rolled t cause)
+pub rolled_closing : (t : Attempt) (cause : Cause) → Closing (rolled t cause)
 rolled_closing t cause = roll_closing (record t { ending = Some (Rolled cause t.prefix) }) t.now.writes
 
 check_closing : (t : Attempt) (lost clock : ℕ) (behind : List Note) → Closing (validate_on t lost clock behind)
@@ -108,25 +111,120 @@ closing_waits stage closing waits = absurd waits
 
 -- ---- the end of a body
 
-conclude_closing : (t : Attempt) (writes : List Write) → Closing (conclude t writes)
+pub conclude_closing : (t : Attempt) (writes : List Write) → Closing (conclude t writes)
 unfolding IsClosing
 conclude_closing t [] = tt
 conclude_closing t (write ∷ writes) = tt
 
-turn_closing : (t : Attempt) (tokens : List ℕ) → tokens ≡ [] → Closing (turn_to t tokens)
-turn_closing t [] none = conclude_closing t t.now.writes
-turn_closing t (token ∷ tokens) none = cc
+-- The end comes, or else a before-commit body has its turn.
+pub turn_closing : (t : Attempt) (tokens : List ℕ) → Closing (turn_to t tokens) ⊎ (0 < (turn_to t tokens).turn)
+turn_closing t [] = inl (conclude_closing t t.now.writes)
+turn_closing t (token ∷ tokens) = inr (omega arith)
 
-finish_at : (t : Attempt) (stage : Stage) → IsFlat t → AwaitsAskAt stage → Closing (asked_at t stage Finish)
+finish_at : (t : Attempt) (stage : Stage) → AwaitsAskAt stage → Closing (asked_at t stage Finish) ⊎ (0 < (asked_at t stage Finish).turn)
 unfolding asked_at asked_going asked_stopped AwaitsAskAt
-finish_at t (Ready told) flat waits = turn_closing t (drop t.turn t.now.laters) (rw (flat.laters, flat.turn) refl)
-finish_at t (Late token) flat waits = turn_closing t (drop t.turn t.now.laters) (rw (flat.laters, flat.turn) refl)
-finish_at t (Stopped cause) flat waits = rolled_closing t cause
-finish_at t stage flat waits = absurd waits
+finish_at t (Ready told) waits = turn_closing t (drop t.turn t.now.laters)
+finish_at t (Late token) waits = turn_closing t (drop t.turn t.now.laters)
+finish_at t (Stopped cause) waits = inl (rolled_closing t cause)
+finish_at t stage waits = absurd waits
 
-pub finish_closing : (t : Attempt) → IsFlat t → AwaitsAskAt t.stage → IsClosing (moved t (Takes Finish)).stage
+pub finish_closing : (t : Attempt) → AwaitsAskAt t.stage → IsClosing (moved t (Takes Finish)).stage ⊎ (0 < (moved t (Takes Finish)).turn)
 unfolding moved
-finish_closing t flat waits = finish_at t t.stage flat waits
+finish_closing t waits = finish_at t t.stage waits
+
+-- ---- who was refused something
+
+abbrev Gone : Attempt → Type 0
+Gone t = LostAt t.stage t.ending
+
+roll_gone : (t : Attempt) (behind : List Write) → IsTrue (is_rolled t.ending) → Gone (roll_on t behind)
+unfolding LostAt
+roll_gone t [] rolled = rolled
+roll_gone t (write ∷ behind) rolled = rolled
+
+after_gone : (t : Attempt) (stage : Stage) (answer : Answer) → t.stage ≡ stage → LostAt stage t.ending → Gone (after_at t stage answer)
+unfolding after_at LostAt
+after_gone t (RollBack write behind) (OfMeta found) is gone = roll_gone (record t { due = ring_if found.pending write.0 }) behind gone
+after_gone t Close (OfStatus found) is gone = gone
+after_gone t Announce answer is gone = absurd gone
+after_gone t Begin answer is gone = absurd gone
+after_gone t (ReadMeta cell left) answer is gone = absurd gone
+after_gone t (ExtendClock cell left first) answer is gone = absurd gone
+after_gone t (ExtendNote cell left first clock note behind) answer is gone = absurd gone
+after_gone t (ReadValue cell left first) answer is gone = absurd gone
+after_gone t (Validate cell left first value) answer is gone = absurd gone
+after_gone t (AcquireMeta cell value left tried) answer is gone = absurd gone
+after_gone t (Acquire cell value left tried first expected again) answer is gone = absurd gone
+after_gone t (OwnerStatus cell value left first) answer is gone = absurd gone
+after_gone t (OwnerMeta cell value left first status) answer is gone = absurd gone
+after_gone t (DoomOwner cell value left first second status) answer is gone = absurd gone
+after_gone t (ReleaseLevel kept write behind) answer is gone = absurd gone
+after_gone t Prepare answer is gone = absurd gone
+after_gone t (Mark write behind) answer is gone = absurd gone
+after_gone t (CommitClock lost) answer is gone = absurd gone
+after_gone t (CommitNote lost clock note behind) answer is gone = absurd gone
+after_gone t (Decide lost clock) answer is gone = absurd gone
+after_gone t (StoreValues write behind) answer is gone = absurd gone
+after_gone t (Release write behind) answer is gone = absurd gone
+after_gone t stage answer is gone = rw is gone
+
+pub gone_after : (t : Attempt) (answer : Answer) → Gone t → Gone (after t answer)
+gone_after t answer gone = after_gone t t.stage answer refl gone
+
+pub gone_does : (t : Attempt) → Gone t → Gone (moved t Does)
+unfolding moved
+gone_does t gone = go t.due
+  where
+    go : (due : List Due) → Gone (did_first t due)
+    go [] = gone
+    go (Run phase token ∷ dues) = gone
+    go (Ring cell ∷ dues) = gone
+
+rolled_gone : (t : Attempt) (cause : Cause) → Gone (rolled t cause)
+rolled_gone t cause = roll_gone (record t { ending = Some (Rolled cause t.prefix) }) t.now.writes refl
+
+stopped_gone : (t : Attempt) (cause : Cause) (ask : Ask) → t.stage ≡ Stopped cause → Gone (asked_stopped t cause ask)
+unfolding asked_stopped LostAt
+stopped_gone t cause Finish is = rolled_gone t cause
+stopped_gone t cause (Abandon other) is = rolled_gone t cause
+stopped_gone t cause ask is = rw is tt
+
+asked_gone : (t : Attempt) (stage : Stage) (ask : Ask) → t.stage ≡ stage → LostAt stage t.ending → Gone (asked_at t stage ask)
+unfolding asked_at LostAt
+asked_gone t (Ready told) ask is gone = absurd gone
+asked_gone t (Late token) ask is gone = absurd gone
+asked_gone t (Stopped cause) ask is gone = stopped_gone t cause ask is
+asked_gone t stage ask is gone = rw is gone
+
+pub gone_takes : (t : Attempt) (ask : Ask) → Gone t → Gone (moved t (Takes ask))
+unfolding moved
+gone_takes t ask gone = asked_gone t t.stage ask refl gone
+
+pub gone_refuses : (t : Attempt) (ask : Ask) → Gone (moved t (OutOfMemory ask))
+unfolding moved LostAt
+gone_refuses t ask = tt
+
+-- Who is closing then is rolled back.
+pub gone_rolled : (stage : Stage) (ending : Option Ending) → IsClosing stage → LostAt stage ending → IsTrue (is_rolled ending)
+unfolding IsClosing LostAt
+gone_rolled (Stopped cause) ending closing gone = absurd closing
+gone_rolled (RollBack write behind) ending closing gone = gone
+gone_rolled Close ending closing gone = gone
+gone_rolled Ended ending closing gone = gone
+gone_rolled stage ending closing gone = absurd gone
+
+-- ---- a before-commit body that is over
+
+late_gone : (t : Attempt) (stage : Stage) → AwaitsAskAt stage → LostAt stage t.ending → Gone (late_over_at t stage)
+unfolding late_over_at AwaitsAskAt LostAt
+late_gone t (Ready told) waits gone = absurd gone
+late_gone t (Late token) waits gone = absurd gone
+late_gone t (Stopped cause) waits gone = rolled_gone t cause
+late_gone t stage waits gone = absurd waits
+
+pub gone_late : (t : Attempt) → AwaitsAskAt t.stage → Gone t → Gone (moved t EndsLate)
+unfolding moved
+gone_late t waits gone = late_gone t t.stage waits gone
 
 -- ---- where it replies
 

@@ -12,7 +12,8 @@ use Rattle.stm_model.specs.Safe.{IsKept, Safe, caller_at, serial_at}
 use Rattle.stm_model.specs.World.{IsCaller, Terms, World, attempt_of, entry_of}
 use Rattle.stm_model.specs.declared.ending.Ending.{Ending}
 use Rattle.stm_model.specs.declared.ending.Ending.TheVariants.{Committed, Read, Rolled}
-use Rattle.world_run.specs.Run.{IsOf, Leaves}
+use Rattle.world_run.specs.Going.{IsOf}
+use Rattle.world_run.specs.Run.{Leaves}
 
 -- The attempt is one that stands, undecided, in a safe world v, and later in a safe world w. What came between is its own.
 module _ {lawful : List ℕ → Type 0} {may : List ℕ → List ℕ → Type 0} {terms : Terms} {v w : World} (p : ℕ) (safe_before : Safe lawful may terms v) (safe : Safe lawful may terms w) (caller : IsCaller terms p)
@@ -25,7 +26,7 @@ module _ {lawful : List ℕ → Type 0} {may : List ℕ → List ℕ → Type 0}
   u = attempt_of w p
 
   own_number : t.own ≡ p
-  own_number = (safe_before.attempts p caller).own
+  own_number = (safe_before.attempts p caller).sound.own
 
   -- what stands at the old history's end
   first_new : (entry : Entry) (entries : List Entry) → w.history ≡ v.history ++ entry ∷ entries → entry_after w.history (length v.history) ≡ entry

@@ -1,22 +1,25 @@
 -- Runs of one caller, put together, and what each event adds.
-use Rattle.std.proofs.Common.{◌≡◌, ◌⊎◌, inl, inr, ℕ, List, [], ◌∷◌, ◌++◌, length, Option, Some, None, ap, sym, ◌∙◌, refl, subst, append-nil, append_assoc}
+use Rattle.std.proofs.Common.{◌≡◌, ◌⊎◌, inl, inr, ℕ, ◌≤◌, List, [], ◌∷◌, ◌++◌, length, Option, Some, None, ap, sym, ◌∙◌, refl, subst, append-nil, append_assoc, arith}
 use Rattle.std.specs.List.{All}
 use Rattle.std.proofs.lemmas.List.Elements.{All-append, All-cons, All-nil, All-weaker}
 use Rattle.opacity.proofs.Effects.{history_after}
 use Rattle.opacity.proofs.Places.{attempt_here}
 use Rattle.opacity.specs.Effects.{caller_of}
-use Rattle.stm_core.specs.Machine.{IsBuilt, IsSameAttempt}
+use Rattle.stm_core.specs.Machine.{IsSameAttempt}
 use Rattle.stm_model.specs.Accesses.{Act, next}
 use Rattle.stm_model.specs.Attempt.{Attempt, Due}
 use Rattle.stm_model.specs.History.{Entry}
-use Rattle.stm_model.specs.Moves.{AwaitsAsk, OutOfMemory, May, MayRunOut, Move, Takes, moved}
+use Rattle.stm_model.specs.Moves.{AwaitsAsk, EndsLate, OutOfMemory, May, MayRunOut, Move, Takes, moved}
 use Rattle.stm_model.specs.World.{Event, IsCaller, MayHappen, MayRun, Moves, Steps, Terms, World, attempt_of, cells_in, entry_of, found, happened, run, step_by, view_after, words_after}
 use Rattle.stm_model.specs.declared.access.Ask.{Ask}
 use Rattle.stm_model.specs.declared.access.Ask.TheVariants.{Finish}
-use Rattle.world_run.specs.Simulation.{Simulation, Happens, IsFlat, IsSameOf, Shows, attempt_in, terms_in, turn_of}
-use Rattle.world_run.specs.Run.{GoesOn, IsClosing, IsOf, LeadsTo, MeetsOwedAt, MeetsOwedBy, asks_in, asks_of}
-use Rattle.world_run.proofs.Closings.{closing_after, closing_does, closing_waits, finish_closing}
-use Rattle.world_run.proofs.Owing.{after_meets, does_meets, refuses_meets, takes_meets}
+use Rattle.world_run.specs.Simulation.{Simulation, Happens, IsSameOf, Shows, attempt_in, terms_in, turn_of}
+use Rattle.world_run.specs.Going.{GoesOn, IsClosing, IsDriven, IsEnding, IsOf, LostAt, MeetsOwedAt, MeetsOwedBy, writes_of}
+use Rattle.world_run.specs.Run.{LeadsTo, asks_in, asks_of}
+use Rattle.world_run.proofs.Closings.{closing_after, closing_does, closing_waits, finish_closing, gone_after, gone_does, gone_late, gone_refuses, gone_takes}
+use Rattle.world_run.proofs.Bounds.{turn_after}
+use Rattle.world_run.proofs.Driven.{driven_after, driven_does, driven_late, driven_refuses, driven_takes, turn_does, turn_late}
+use Rattle.world_run.proofs.Owing.{after_meets, does_meets, meets_late, refuses_meets, takes_meets}
 use Rattle.world_run.proofs.Seats.{caller_then, none_changed, same_terms, terms_on}
 use Rattle.world_run.proofs.Truths.{shown_history}
 
@@ -77,6 +80,9 @@ module _ {L : Type 0} {lawful : L → List ℕ → Type 0} {may : L → List ℕ
     same = same_none p c;
     meets = λ more meets. meets;
     closes = λ closing. closing;
+    lost = λ gone. gone;
+    driven = λ driven. driven;
+    turn = omega arith;
     entries = [];
     history = sym (append-nil _);
     left = All-nil (IsOf (attempt_in c p));
@@ -90,6 +96,9 @@ module _ {L : Type 0} {lawful : L → List ℕ → Type 0} {may : L → List ℕ
     same = same_on first.same second.same;
     meets = λ more meets. second.meets more (first.meets (ys ++ more) (subst (λ (asks : List Ask). MeetsOwedBy lawful may a p asks) (append_assoc xs ys more) meets));
     closes = λ closing. second.closes (first.closes closing);
+    lost = λ gone. second.lost (first.lost gone);
+    driven = λ driven. second.driven (first.driven driven);
+    turn = let low = first.turn in let high = second.turn in omega (arith, low, high);
     entries = first.entries ++ second.entries;
     history = second.history ∙ ap (λ (list : List Entry). list ++ second.entries) first.history ∙ append_assoc a.history first.entries second.entries;
     left = All-append (IsOf (attempt_in a p)) first.entries second.entries first.left
@@ -99,10 +108,13 @@ module _ {L : Type 0} {lawful : L → List ℕ → Type 0} {may : L → List ℕ
 
 -- ---- what one event adds
 
--- What an event leaves of its caller's attempt, which is asked for these by it: one that is closing stays so, and one that meets what it owes does so too.
+-- What an event leaves of its caller's attempt, which is asked for these by it: one that is closing or lost stays so, it is asked by no before-commit body, and one that meets what it owes does so too.
 record Keeps (lawful : List ℕ → Type 0) (may : List ℕ → List ℕ → Type 0) (size : ℕ) (asks : List Ask) (t u : Attempt) : Type 0 where
   closes : IsClosing t.stage → IsClosing u.stage
-  meets : (more : List Ask) → MeetsOwedAt lawful may size (asks ++ more) t.now.writes t.stage → MeetsOwedAt lawful may size more u.now.writes u.stage
+  lost : LostAt t.stage t.ending → LostAt u.stage u.ending
+  driven : IsDriven t → IsDriven u
+  turn : t.turn ≤ u.turn
+  meets : (more : List Ask) → MeetsOwedAt lawful may size (asks ++ more) t.turn t.now.writes (writes_of t.saved) t.stage → MeetsOwedAt lawful may size more u.turn u.now.writes (writes_of u.saved) u.stage
 
 module _ {L : Type 0} {lawful : L → List ℕ → Type 0} {may : L → List ℕ → List ℕ → Type 0} {before after : Simulation L} (p : ℕ) (w : World) (shows : Shows lawful may before w)
     (caller : IsCaller (terms_in before) p) where
@@ -136,10 +148,10 @@ module _ {L : Type 0} {lawful : L → List ℕ → Type 0} {may : L → List ℕ
       }
     ]
 
-    meets_then : (more : List Ask) → MeetsOwedAt (lawful before.law) (may before.law) (length before.opening) more (attempt_in after p).now.writes (attempt_in after p).stage → MeetsOwedBy lawful may after p more
+    meets_then : (more : List Ask) → MeetsOwedAt (lawful before.law) (may before.law) (length before.opening) more (attempt_in after p).turn (attempt_in after p).now.writes (writes_of (attempt_in after p).saved) (attempt_in after p).stage → MeetsOwedBy lawful may after p more
     meets_then more meets =
-        subst (λ (opening : List ℕ). MeetsOwedAt (lawful after.law) (may after.law) (length opening) more (attempt_in after p).now.writes (attempt_in after p).stage) (sym happens.terms.opening)
-        (subst (λ law. MeetsOwedAt (lawful law) (may law) (length before.opening) more (attempt_in after p).now.writes (attempt_in after p).stage) (sym happens.terms.law) meets)
+        subst (λ (opening : List ℕ). MeetsOwedAt (lawful after.law) (may after.law) (length opening) more (attempt_in after p).turn (attempt_in after p).now.writes (writes_of (attempt_in after p).saved) (attempt_in after p).stage) (sym happens.terms.opening)
+        (subst (λ law. MeetsOwedAt (lawful law) (may law) (length before.opening) more (attempt_in after p).turn (attempt_in after p).now.writes (writes_of (attempt_in after p).saved) (attempt_in after p).stage) (sym happens.terms.law) meets)
 
     goes_by : {asks : List Ask} → asks_of event ≡ asks → IsSameOf p before after
         → Keeps (lawful before.law) (may before.law) (length before.opening) asks (attempt_in before p) (attempt_in after p) → GoesOn lawful may before p asks after
@@ -150,6 +162,9 @@ module _ {L : Type 0} {lawful : L → List ℕ → Type 0} {may : L → List ℕ
       same = same;
       meets = λ others meets. meets_then others (keeps.meets others meets);
       closes = keeps.closes;
+      lost = keeps.lost;
+      driven = keeps.driven;
+      turn = keeps.turn;
       entries = more.entries;
       history = more.history;
       left = more.left;
@@ -175,9 +190,12 @@ module _ {L : Type 0} {lawful : L → List ℕ → Type 0} {may : L → List ℕ
 
     kept_act : (this : Option Act) → Kept [] (attempt_of w p) (attempt_of (step_by w p this) p)
     unfolding step_by
-    kept_act None = record { closes = λ closing. closing; meets = λ more meets. meets }
+    kept_act None = record { closes = λ closing. closing; lost = λ gone. gone; driven = λ driven. driven; turn = omega arith; meets = λ more meets. meets }
     kept_act (Some act) = rw (attempt_here (words_after w (attempt_of w p) act) p (view_after w (w.view p) act)) (record {
       closes = closing_after (attempt_of w p) (found w act);
+      lost = gone_after (attempt_of w p) (found w act);
+      driven = driven_after (attempt_of w p) (found w act);
+      turn = let same = turn_after (attempt_of w p) (found w act) in omega (arith, same);
       meets = λ more. after_meets (lawful before.law) (may before.law) (length before.opening) more (attempt_of w p) (attempt_of w p).stage (found w act) refl;
     })
 
@@ -197,30 +215,49 @@ module _ {L : Type 0} {lawful : L → List ℕ → Type 0} {may : L → List ℕ
     turns_on [] happens = steps_on happens
     turns_on (first ∷ due) happens = moves_on refl happens (record {
       closes = closing_does (attempt_in before p);
+      lost = gone_does (attempt_in before p);
+      driven = driven_does (attempt_in before p);
+      turn = let same = turn_does (attempt_in before p) in omega (arith, same);
       meets = λ more. does_meets (lawful before.law) (may before.law) (length before.opening) more (attempt_in before p);
+    })
+
+    -- A before-commit body that has its turn is over.
+    pub lates_on : Happens lawful may before (Moves p EndsLate) after → GoesOn lawful may before p [] after
+    unfolding asks_of May
+    lates_on happens = let able = may_now happens in moves_on refl happens (record {
+      closes = λ closing. closing_waits (attempt_in before p).stage closing able.0.stands;
+      lost = gone_late (attempt_in before p) able.0.stands;
+      driven = λ driven. driven_late (attempt_in before p) able.0.stands;
+      turn = turn_late (attempt_in before p) able.0.stands;
+      meets = λ more. meets_late (lawful before.law) (may before.law) (length before.opening) more (attempt_in before p) able.1 able.0.stands;
     })
 
     -- ---- what it is asked
 
-    module _ (ask : Ask) (built : IsBuilt ask) (flat : IsFlat (attempt_in before p)) (waits : AwaitsAsk (attempt_in before p))
+    module _ (ask : Ask) (own : (attempt_in before p).turn ≡ 0) (waits : AwaitsAsk (attempt_in before p))
         (asked : Happens lawful may before (Moves p (Takes ask)) after ⊎ Happens lawful may before (Moves p (OutOfMemory ask)) after) where
       pub asks_on : GoesOn lawful may before p (ask ∷ []) after
       unfolding asks_of
       asks_on = elim asked [
         | inl takes ↦ moves_on refl takes (record {
           closes = λ closing. closing_waits (attempt_in before p).stage closing waits.stands;
-          meets = λ more meets. takes_meets (lawful before.law) (may before.law) (length before.opening) more (attempt_in before p) ask built flat waits.stands meets;
+          lost = gone_takes (attempt_in before p) ask;
+          driven = λ driven. driven_takes (attempt_in before p) own ask waits.stands;
+          turn = omega (arith, own);
+          meets = λ more meets. takes_meets (lawful before.law) (may before.law) (length before.opening) more (attempt_in before p) ask own waits.stands meets;
         })
         | inr refuses ↦ moves_on refl refuses (record {
           closes = λ closing. closing_waits (attempt_in before p).stage closing waits.stands;
+          lost = λ gone. gone_refuses (attempt_in before p) ask;
+          driven = λ driven. driven_refuses (attempt_in before p) own ask;
+          turn = omega (arith, own);
           meets = λ more meets. refuses_meets (lawful before.law) (may before.law) (length before.opening) more (attempt_in before p) ask;
         })
       ]
 
-    -- Who is asked to finish is closing then.
-    pub finishes : IsFlat (attempt_in before p) → Happens lawful may before (Moves p (Takes Finish)) after ⊎ Happens lawful may before (Moves p (OutOfMemory Finish)) after
-        → IsClosing (attempt_in after p).stage
+    -- Who is asked to finish is closing then, or a before-commit body has its turn.
+    pub finishes : Happens lawful may before (Moves p (Takes Finish)) after ⊎ Happens lawful may before (Moves p (OutOfMemory Finish)) after → IsEnding (attempt_in after p)
     unfolding May MayRunOut
-    finishes flat (inl takes) =
-        subst (λ (t : Attempt). IsClosing t.stage) (sym (attempt_moved takes)) (finish_closing (attempt_in before p) flat (may_now takes).0.stands)
-    finishes flat (inr lacks) = absurd (may_now lacks).3
+    finishes (inl takes) =
+        subst (λ (t : Attempt). IsEnding t) (sym (attempt_moved takes)) (finish_closing (attempt_in before p) (may_now takes).0.stands)
+    finishes (inr lacks) = absurd (may_now lacks).3

@@ -1,12 +1,13 @@
 pub mod Seats
 pub mod Nexts
 pub mod Steps
-pub mod Flats
+pub mod Bounds
 pub mod Turns
 pub mod Openings
 pub mod Asks
 pub mod Falls
 pub mod Closings
+pub mod Driven
 pub mod Entries
 pub mod Going
 pub mod Bodies

@@ -13,7 +13,8 @@ use Rattle.stm_model.specs.declared.access.Access.{Access}
 use Rattle.stm_model.specs.declared.access.Access.TheVariants.{Exchange}
 use Rattle.stm_model.specs.declared.access.Word.TheVariants.{Clock}
 use Rattle.stm_model.specs.declared.ending.Ending.{Ending}
-use Rattle.world_run.specs.Simulation.{IsOver, IsToDecide, replies, tells_end, tells_wait, turn_of}
+use Rattle.world_run.specs.Going.{tells_end, tells_wait}
+use Rattle.world_run.specs.Simulation.{IsOver, IsToDecide, replies, turn_of}
 
 pub is_undecided : (access : Access) → ((old new : ℕ) → access ≢ Exchange Clock old new) → IsUndecided access
 unfolding IsUndecided
@@ -97,10 +98,10 @@ wait_next None = false
 wait_next (Some next) = tells_wait next
 
 pub awaits : (t : Attempt) (told : Next) → Promises t told → IsTrue (tells_wait told) → AwaitsAsk t
-awaits t (coming.Before token) promises is = promises.0.awaits
+awaits t (coming.Before token) promises is = promises.waits.awaits
 awaits t (coming.Reply reply.Ready) promises is = promises.awaits
 awaits t (coming.Reply (reply.Value value)) promises is = promises.awaits
-awaits t (coming.Reply (reply.Stopped cause)) promises is = promises.awaits
+awaits t (coming.Reply (reply.Stopped cause)) promises is = promises.waits.awaits
 awaits t told promises is = cc
 
 wait_told : (t : Attempt) (stage : Stage) → AwaitsAskAt stage → IsTrue (wait_next (standing t stage))

@@ -1,5 +1,5 @@
 -- A whole attempt of a caller, from its begin to its end.
-use Rattle.std.proofs.Common.{◌≡◌, ℕ, Result, Ok, Err, IfOk, IfSome, IsSome, OnOk, List, [], ◌∷◌, ◌++◌, length, Option, Some, None, ap, sym, ◌∙◌, refl, subst}
+use Rattle.std.proofs.Common.{◌≡◌, inl, inr, ℕ, Result, Ok, Err, IfOk, IfSome, IsSome, OnOk, List, [], ◌∷◌, ◌++◌, length, Option, Some, None, ap, sym, ◌∙◌, refl, subst}
 use Rattle.std.specs.List.{All}
 use Rattle.opacity.proofs.Runs.{safe_opaque}
 use Rattle.stm_core.specs.Machine.{IsSameAttempt, after_due, next_of, over, standing}
@@ -12,7 +12,8 @@ use Rattle.stm_model.specs.World.{Event, IsCaller, MayHappen, Moves, World, atte
 use Rattle.stm_model.specs.declared.access.Ask.{Ask}
 use Rattle.stm_model.specs.declared.ending.Ending.{Ending}
 use Rattle.world_run.specs.Simulation.{Simulation, Happens, Invariant, IsOver, MayBegin, Shows, attempt_in, terms_in}
-use Rattle.world_run.specs.Run.{AsksMeetOwed, GoesAlong, GoesOn, HasEnded, IsOf, IsOpaque, Leaves, MeetsOwedAt, MeetsOwedBy, Runs, asks_of, told_ending}
+use Rattle.world_run.specs.Going.{BodyGoes, BodyMeets, GoesOn, IsDriven, IsOf, MeetsOwedAt, MeetsOwedBy, told_ending}
+use Rattle.world_run.specs.Run.{AreAsked, AsksMeetOwed, ClosesOpen, HasEnded, IsOpaque, Leaves, Runs, asks_of}
 use Rattle.world_run.proofs.Entries.{leaves}
 use Rattle.world_run.proofs.Going.{attempt_moved, leads_by, leads_on}
 use Rattle.world_run.proofs.Seats.{caller_then, safe_then}
@@ -106,24 +107,27 @@ module _ {L : Type 0} {lawful : L → List ℕ → Type 0} {may : L → List ℕ
   unfolding May
   may_begin = record { over = record { ended = may_now.0; nothing_due = may_now.1 }; serial = may_now.3 }
 
+  -- Its own body asks it.
+  pub begun_driven : IsDriven (attempt_in b p)
+  begun_driven = rw begun_is (inr (inl refl))
+
   -- It has written nothing, so it meets what its asks do.
-  pub begun_meets : (asks : List Ask) → AsksMeetOwed (lawful a.law) (may a.law) (length a.opening) [] asks → MeetsOwedBy lawful may b p asks
-  unfolding MeetsOwedAt
-  begun_meets asks owed = rw (begins.terms.law, begins.terms.opening, begun_is) owed
+  pub begun_meets : (asks : List Ask) → AsksMeetOwed (lawful a.law) (may a.law) (length a.opening) [] [] asks → ClosesOpen 0 asks → MeetsOwedBy lawful may b p asks
+  unfolding MeetsOwedAt BodyMeets
+  begun_meets asks owed closes = rw (begins.terms.law, begins.terms.opening, begun_is) (owed, closes)
 
   -- ---- what follows
 
-  module _ {e : Simulation L} {asks : List Ask} (along : GoesAlong lawful may b p asks e) where
-    abbrev goes : GoesOn lawful may b p along.asked e
-    goes = along.goes
+  module _ {e : Simulation L} {asks : List Ask} (body : BodyGoes lawful may b p asks e) where
+    abbrev goes : GoesOn lawful may b p body.came e
+    goes = body.goes
 
     pub runs : Runs lawful may a p asks e
     unfolding asks_of
     runs = record {
       events = event ∷ goes.events;
       leads = leads_on (leads_by {event = event} refl begins) goes.leads;
-      behind = along.behind;
-      asked = along.front ∙ ap (λ (list : List Ask). list ++ along.behind) (sym goes.asked);
+      asked = subst (λ (came : List Ask). AreAsked asks came (attempt_in e p).ending) (sym goes.asked) body.asked;
     }
 
     caller_last : IsCaller (terms_in e) p
@@ -171,7 +175,7 @@ module _ {L : Type 0} {lawful : L → List ℕ → Type 0} {may : L → List ℕ
       pub has_ended : HasEnded lawful may a p e ending
       has_ended = record {
         began = may_begin;
-        own = subst (λ (t : Attempt). t.own ≡ p) last_is (last_shown.safe.attempts p caller_last).own;
+        own = subst (λ (t : Attempt). t.own ≡ p) last_is (last_shown.safe.attempts p caller_last).sound.own;
         next = goes.same.same.serial ∙ ap (λ (t : Attempt). t.serial) begun_is;
         settings = goes.same.same.settings ∙ ap (λ (t : Attempt). t.settings) begun_is;
         over = over;

@@ -10,7 +10,7 @@ use Rattle.stm_model.specs.Attempt.{Attempt}
 use Rattle.stm_model.specs.Safe.{Safe}
 use Rattle.stm_model.specs.World.{Event, IsCaller, MayHappen, Terms, View, World, attempt_of, happened, world_of}
 use Rattle.stm_model.specs.declared.settings.Settings.{Settings}
-use Rattle.world_run.specs.Simulation.{Simulation, Happens, HasSameTerms, InvariantOn, IsFlat, Shows, attempt_in, latest, machine_at, terms_in}
+use Rattle.world_run.specs.Simulation.{Simulation, Happens, HasSameTerms, InvariantOn, Shows, attempt_in, latest, machine_at, terms_in}
 
 same_place : (q p : ℕ) → nat_eq q p ≡ true → q ≡ p
 same_place q p is = grind (arith, nat_tests)
@@ -99,8 +99,8 @@ module _ {L : Type 0} {p : ℕ} {before after : Simulation L} {now : Machine} (c
     happens : Happens lawful may before event after
     happens = record { terms = seats.terms; able = able; shows = shown }
 
-    pub follows : (count clock : ℕ) → InvariantOn lawful may count clock before → IsFlat now.attempt → Follows lawful may count clock before event after
-    follows count clock old flat = record {
+    pub follows : (count clock : ℕ) → InvariantOn lawful may count clock before → Follows lawful may count clock before event after
+    follows count clock old = record {
       happens = happens;
       invariant = record {
         callers = old.callers ∙ ap (λ (each : Settings). each.callers) (sym seats.terms.settings);
@@ -109,7 +109,6 @@ module _ {L : Type 0} {p : ℕ} {before after : Simulation L} {now : Machine} (c
           size = rw (seats.machines, seats.terms.settings) (length-set before.machines (p - 1) (Some now) ∙ old.whole.size);
           fits = subst SettingsFit (sym seats.terms.settings) old.whole.fits;
           attempts = subst (λ (each : Settings). each.attempts ≤ MAX_SERIAL) (sym seats.terms.settings) old.whole.attempts;
-          flat = split (λ q t. IsFlat t) flat (λ q apart. old.whole.flat q);
           world = happened old.whole.world event;
           shows = shown old.whole.world old.whole.shows;
         };

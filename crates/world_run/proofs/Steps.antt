@@ -85,8 +85,8 @@ module _ (lawful : List ℕ → Type 0) (may : List ℕ → List ℕ → Type 0)
 
   fits_by : (this : Act) → ClockFits (view p).attempt (Some this) (word_found terms words (access_of this))
   unfolding ClockFits access_of word_of place_of world_of
-  fits_by LoadClock = clock_within (view p).attempt.settings.clock (safe.attempts p caller).limit
-  fits_by (ExchangeClock old) = clock_within (view p).attempt.settings.clock (safe.attempts p caller).limit
+  fits_by LoadClock = clock_within (view p).attempt.settings.clock (safe.attempts p caller).sound.limit
+  fits_by (ExchangeClock old) = clock_within (view p).attempt.settings.clock (safe.attempts p caller).sound.limit
   fits_by this = tt
 
   pub clock_fits : ClockFits (view p).attempt (next (view p).attempt) (word_found terms words (access_of act))

@@ -22,10 +22,10 @@ use Rattle.meta_word.specs.declared.status.TxnStatus.{TxnStatus}
 use Rattle.opacity.proofs.Places.{attempt_here}
 use Rattle.opacity.proofs.Steps.{event_safe}
 use Rattle.opacity.proofs.Tables.{status_in, status_own}
-use Rattle.world_run.specs.Simulation.{Simulation, Advances, HasSameTerms, Happens, InvariantOn, IsFlat, IsOver, IsSameOf, MeetsOwedNext, Shows, attempt_in, latest, machine_at, terms_in}
+use Rattle.world_run.specs.Going.{Advances}
+use Rattle.world_run.specs.Simulation.{Simulation, HasSameTerms, Happens, InvariantOn, IsOver, IsSameOf, MeetsOwedNext, Shows, attempt_in, latest, machine_at, terms_in}
 use Rattle.world_run.specs.Places.{Changes, HasDue, IsDone, IsGivenWord, MayBeGiven, StandsAt}
 use Rattle.world_run.proofs.Falls.{did_falls, took_falls}
-use Rattle.world_run.proofs.Flats.{flat_after, flat_does}
 use Rattle.world_run.proofs.Seats.{Follows, Reseats, none_changed, own_now, there_now}
 use Rattle.world_run.proofs.Seats as seats
 use Rattle.world_run.proofs.Steps.{attempts_shown, clock_fits, ground_safe, of_table, own_step, tells}
@@ -127,7 +127,7 @@ module _ {L : Type 0} {lawful : L → List ℕ → Type 0} {may : L → List ℕ
   pub clock_below : (taken : ℕ) → Decides (attempt_in before p) taken → taken < MAX_VERSION
   clock_below taken decides =
       let safe = old.whole.shows.safe in
-      let limit : (attempt_in before p).settings.clock ≡ (terms_in before).limit = subst (λ (t : Attempt). t.settings.clock ≡ (terms_in before).limit) (old.whole.shows.attempts p caller) (safe.attempts p caller).limit in
+      let limit : (attempt_in before p).settings.clock ≡ (terms_in before).limit = subst (λ (t : Attempt). t.settings.clock ≡ (terms_in before).limit) (old.whole.shows.attempts p caller) (safe.attempts p caller).sound.limit in
       let fits : (terms_in before).limit ≤ MAX_VERSION = safe.fits.limit in
       omega (arith, decides.below, limit, fits)
 
@@ -180,19 +180,16 @@ module _ {L : Type 0} {lawful : L → List ℕ → Type 0} {may : L → List ℕ
       unfolding MayHappen
       may_step w shows = caller
 
-      flat : IsFlat given.now.attempt
-      flat = rw (given.attempt, was_own given.changes) (flat_after (attempt_in before p) found (old.whole.flat p caller))
-
       pub steps : Follows lawful may count clock before (Steps p) after
       unfolding happened
       steps = seats.follows caller (reseats terms given.changes) lawful may (Steps p) refl may_step own_after (λ w shows. (then_shown w shows).shows) (λ w shows. (then_shown w shows).safe)
-          count clock old flat
+          count clock old
 
       pub advances : Advances lawful may p before (Steps p) after
       advances = record {
         happens = steps.happens;
         same = same_of terms given.changes;
-        falls = took_falls old.whole p caller after.machines found given;
+        falls = took_falls before p after.machines found given;
       }
 
   -- What an access makes of a simulation, by what the table makes of it.
@@ -272,15 +269,14 @@ module _ {L : Type 0} {lawful : L → List ℕ → Type 0} {may : L → List ℕ
     unfolding MeetsOwed
     safe_moved w shows = event_safe (lawful before.law) (may before.law) (terms_in before) w (Moves p this) (may_move w shows) tt shows.safe
 
-    pub moves : IsFlat (moved (attempt_in before p) this) → Follows lawful may count clock before (Moves p this) after
-    moves flat = seats.follows caller seat lawful may (Moves p this) refl may_move own_moved words_moved safe_moved
-        count clock old (subst (λ (t : Attempt). IsFlat t) (sym is) flat)
+    pub moves : Follows lawful may count clock before (Moves p this) after
+    moves = seats.follows caller seat lawful may (Moves p this) refl may_move own_moved words_moved safe_moved count clock old
 
   -- ---- what begins
 
   module _ (over : IsOver (attempt_in before p)) where
     own_number : (attempt_in before p).own ≡ p
-    own_number = subst (λ (t : Attempt). t.own ≡ p) (old.whole.shows.attempts p caller) (old.whole.shows.safe.attempts p caller).own
+    own_number = subst (λ (t : Attempt). t.own ≡ p) (old.whole.shows.attempts p caller) (old.whole.shows.safe.attempts p caller).sound.own
 
     pub serial_is : (attempt_in before p).serial ≡ (status_of (get_or before.words p 0)).serial
     unfolding world_of SerialAt
@@ -306,13 +302,9 @@ module _ {L : Type 0} {lawful : L → List ℕ → Type 0} {may : L → List ℕ
           let next : suc (attempt_in before p).serial ≡ serial + 1 = (let same = same_serial in omega (arith, same)) in
           λ i. record (no_attempt (own_number i) before.settings) { serial = next i; stage = Announce }
 
-      flat_begins : IsFlat (moved (attempt_in before p) (Begins before.settings))
-      unfolding moved
-      flat_begins = record { turn = refl; hooks = refl; laters = refl; saved = refl; due = omega arith }
-
       pub begins : {after : Simulation L} {now : Machine} → Reseats p before after now → after.words ≡ before.words → after.history ≡ before.history
           → now.attempt ≡ record (no_attempt p before.settings) { serial = serial + 1; stage = Announce } → Follows lawful may count clock before (Moves p (Begins before.settings)) after
-      begins seat words history is = moves (Begins before.settings) able_to_begin seat words history (is ∙ sym begins_so) flat_begins
+      begins seat words history is = moves (Begins before.settings) able_to_begin seat words history (is ∙ sym begins_so)
 
   -- ---- what is due
 
@@ -334,7 +326,7 @@ module _ {L : Type 0} {lawful : L → List ℕ → Type 0} {may : L → List ℕ
       able = due
 
       pub does : Follows lawful may count clock before (Moves p Does) after
-      does = moves Does able (reseats terms done.changes) words history does_so (flat_does (attempt_in before p) (old.whole.flat p caller))
+      does = moves Does able (reseats terms done.changes) words history does_so
 
       pub done_advances : Advances lawful may p before (Moves p Does) after
-      done_advances = record { happens = does.happens; same = same_of terms done.changes; falls = did_falls old.whole p caller after.machines due done }
+      done_advances = record { happens = does.happens; same = same_of terms done.changes; falls = did_falls before p after.machines due done }

@@ -1,3 +1,4 @@
-pub mod Simulation
+pub mod Going
 pub mod Places
 pub mod Run
+pub mod Simulation

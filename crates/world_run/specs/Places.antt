@@ -5,13 +5,12 @@ use Rattle.stm_core.specs.declared.next.Next.TheVariants.{Reply}
 use Rattle.stm_core.specs.declared.next.Reply.TheVariants as reply
 use Rattle.stm_core.specs.Machine.{IsRefused, IsSameAttempt, Machine, MayTake}
 use Rattle.stm_model.specs.After.{after_word}
-use Rattle.stm_model.specs.Moves.{Does, Takes, moved}
+use Rattle.stm_model.specs.Attempt.{Attempt}
+use Rattle.stm_model.specs.Moves.{Does, EndsLate, Takes, moved}
 use Rattle.stm_model.specs.Refusing.{IsOfBody}
 use Rattle.stm_model.specs.declared.access.Ask.{Ask}
-use Rattle.stm_model.specs.declared.access.Ask.TheVariants.{Abandon, Finish, Get, Set}
-use Rattle.world_run.specs.Simulation.{IsAskable}
-use Rattle.stm_model.specs.declared.cause.Cause.{Cause}
-use Rattle.stm_model.specs.declared.cause.Cause.TheVariants.{ReadConflict, Moved, Stale, WriteConflict}
+use Rattle.stm_model.specs.declared.access.Ask.TheVariants.{Abandon, Finish, Get, Keep, Set, Undo}
+use Rattle.world_run.specs.Simulation.{IsAskable, WaitsLate}
 
 -- Of these attempts the one at this place changes.
 pub record Changes (before after : List (Option Machine)) (place : ℕ) (was now : Machine) : Type 0 where
@@ -43,6 +42,13 @@ pub record IsAsked (before after : List (Option Machine)) (place : ℕ) (ask : A
   pub changes : Changes before after place was now
   pub moves : (now.attempt ≡ moved was.attempt (Takes ask)) ⊎ IsRefused was.attempt ask now.attempt
 
+-- The before-commit body of the attempt at this place is over.
+pub record IsPastLate (before after : List (Option Machine)) (place : ℕ) : Type 0 where
+  pub was : Machine
+  pub now : Machine
+  pub changes : Changes before after place was now
+  pub attempt : now.attempt ≡ moved was.attempt EndsLate
+
 -- This attempt stands at the place.
 pub record StandsAt (machines : List (Option Machine)) (place : ℕ) (machine : Machine) : Type 0 where
   pub within : place < length machines
@@ -60,6 +66,12 @@ pub record HasDue (machines : List (Option Machine)) (place : ℕ) : Type 0 wher
   pub stands : StandsAt machines place machine
   pub due : 0 < length machine.attempt.due
 
+-- A before-commit body of the attempt at this place waits to ask.
+pub record HasLate (machines : List (Option Machine)) (place : ℕ) : Type 0 where
+  pub machine : Machine
+  pub stands : StandsAt machines place machine
+  pub waits : WaitsLate machine.attempt
+
 -- The attempt at this place may be asked.
 pub record MayBeAsked (machines : List (Option Machine)) (place : ℕ) (ask : Ask) : Type 0 where
   pub machine : Machine
@@ -67,17 +79,11 @@ pub record MayBeAsked (machines : List (Option Machine)) (place : ℕ) (ask : As
   pub askable : IsAskable (2 ^ 32) machine.attempt ask
 
 -- An attempt that waits with this reply may take the ask, over so many cells.
-unfoldable pub TakesAsk : ℕ → Next → Ask → Type 0
-TakesAsk size told (Get cell) = cell.0 < size
-TakesAsk size told (Set cell value) = (cell.0 < size) × (value < 2 ^ 64)
-TakesAsk size told Finish = Unit {0}
-TakesAsk size told (Abandon cause) = IsOfBody cause ⊎ (told ≡ Reply (reply.Stopped cause))
-TakesAsk size told ask = ⊥
-
--- The cause names a cell.
-abbrev pub NamesCell : Cause → Type 0
-NamesCell (ReadConflict addr meta) = Unit {0}
-NamesCell (Moved addr first second) = Unit {0}
-NamesCell (Stale addr version meta) = Unit {0}
-NamesCell (WriteConflict addr meta) = Unit {0}
-NamesCell _ = ⊥
+unfoldable pub TakesAsk : ℕ → Attempt → Next → Ask → Type 0
+TakesAsk size t told (Get cell) = cell.0 < size
+TakesAsk size t told (Set cell value) = (cell.0 < size) × (value < 2 ^ 64)
+TakesAsk size t told Keep = 0 < length t.saved
+TakesAsk size t told Undo = 0 < length t.saved
+TakesAsk size t told Finish = t.turn ≡ 0
+TakesAsk size t told (Abandon cause) = IsOfBody cause ⊎ (told ≡ Reply (reply.Stopped cause))
+TakesAsk size t told ask = Unit {0}

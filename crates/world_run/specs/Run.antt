@@ -1,11 +1,9 @@
 -- A caller's attempt that runs from its begin to its end, nobody else moving. Here p is the caller's number and t an attempt.
-use Rattle.std.specs.Prelude.{◌≡◌, ℕ, suc, List, [], ◌∷◌, ◌++◌, length, Option, Some, None}
+use Rattle.std.specs.Prelude.{◌≡◌, ℕ, suc, ◌-◌, ◌<◌, ◌⊎◌, IsTrue, List, [], ◌∷◌, ◌++◌, length, Option, Some}
 use Rattle.std.specs.List.{All}
 use Rattle.opacity.specs.Effects.{caller_of}
-use Rattle.stm_core.specs.declared.next.Next.{Next}
-use Rattle.stm_core.specs.declared.next.Next.TheVariants.{Reply}
-use Rattle.stm_core.specs.declared.next.Reply.TheVariants as reply
-use Rattle.stm_model.specs.Attempt.{Attempt, Stage, Write, Stopped, AcquireMeta, Acquire, OwnerStatus, OwnerMeta, DoomOwner, ReleaseLevel, Prepare, Mark, CommitClock, CommitNote, Decide, StoreValues, Release, RollBack, Close, Ended}
+use Rattle.stm_model.specs.Attempt.{Attempt, Write}
+use Rattle.stm_model.specs.HandlerRuns.{is_rolled}
 use Rattle.stm_model.specs.Heap.{put}
 use Rattle.stm_model.specs.History.{Entry}
 use Rattle.stm_model.specs.Moves.{OutOfMemory, Takes}
@@ -13,10 +11,10 @@ use Rattle.stm_model.specs.Owes.{Owes}
 use Rattle.stm_model.specs.Safe.{Opaque}
 use Rattle.stm_model.specs.World.{Event, MayRun, Moves, World, entry_of, run}
 use Rattle.stm_model.specs.declared.access.Ask.{Ask}
-use Rattle.stm_model.specs.declared.access.Ask.TheVariants.{Abandon, Finish, Set}
+use Rattle.stm_model.specs.declared.access.Ask.TheVariants.{Abandon, Enter, Finish, Keep, Set, Undo}
 use Rattle.stm_model.specs.declared.ending.Ending.{Ending}
 use Rattle.stm_model.specs.declared.ending.Ending.TheVariants.{Committed}
-use Rattle.world_run.specs.Simulation.{Simulation, HasSameTerms, IsOver, IsSameOf, IsTrueOf, MayBegin, Shows, attempt_in, terms_in}
+use Rattle.world_run.specs.Simulation.{Simulation, HasSameTerms, IsOver, IsTrueOf, MayBegin, Shows, attempt_in, terms_in}
 
 -- ---- who moved
 
@@ -37,12 +35,30 @@ pub record LeadsTo {L : Type 0} (lawful : L → List ℕ → Type 0) (may : L �
   pub able : (w : World) → Shows lawful may before w → MayRun (terms_in before) w events
   pub shows : (w : World) → Shows lawful may before w → Shows lawful may after (run w events)
 
--- Nobody but the caller moved, and of these asks its attempts were asked for the first ones, in order, perhaps for all.
+-- The ask closes a level.
+abbrev pub ClosesLevel : Ask → Type 0
+ClosesLevel Keep = Unit {0}
+ClosesLevel Undo = Unit {0}
+ClosesLevel ask = ⊥
+
+-- Of a body's asks the first ones came, and then, in place of one that closes a level, to finish.
+pub record IsCutOff (asks came : List Ask) : Type 0 where
+  pub front : List Ask
+  pub close : Ask
+  pub behind : List Ask
+  pub closes : ClosesLevel close
+  pub whole : asks ≡ front ++ close ∷ behind
+  pub last : came ≡ front ++ Finish ∷ []
+
+-- Of a body's asks, and to finish behind them, the first ones came, in order, perhaps all. Or it is cut off and rolled back: it was refused something, and the next ask would close a level where none is open.
+abbrev pub AreAsked : (asks came : List Ask) → Option Ending → Type 0
+AreAsked asks came ending = ((behind : List Ask) × (asks ++ Finish ∷ [] ≡ came ++ behind)) ⊎ (IsCutOff asks came × IsTrue (is_rolled ending))
+
+-- Nobody but the caller moved, and of a body's asks its attempt was asked for the first ones.
 pub record Runs {L : Type 0} (lawful : L → List ℕ → Type 0) (may : L → List ℕ → List ℕ → Type 0) (before : Simulation L) (p : ℕ) (asks : List Ask) (after : Simulation L) : Type 0 where
   pub events : List Event
   pub leads : LeadsTo lawful may before p events after
-  pub behind : List Ask
-  pub asked : asks ≡ asks_in events ++ behind
+  pub asked : AreAsked asks (asks_in events) (attempt_in after p).ending
 
 -- ---- how the attempt ended
 
@@ -69,80 +85,31 @@ pub record HasEnded {L : Type 0} (lawful : L → List ℕ → Type 0) (may : L �
 
 -- ---- what its asks owe
 
--- What is owed is met by the asks that follow on such writes: where they finish the body, the writes of all asks before make of any lawful heap a lawful one that it may become.
-unfoldable pub AsksMeetOwed : (List ℕ → Type 0) → (List ℕ → List ℕ → Type 0) → ℕ → List Write → List Ask → Type 0
-AsksMeetOwed lawful may size writes [] = Unit {0}
-AsksMeetOwed lawful may size writes (Set cell value ∷ asks) = AsksMeetOwed lawful may size (put writes cell.0 value) asks
-AsksMeetOwed lawful may size writes (Finish ∷ asks) = Owes lawful may size [] writes
-AsksMeetOwed lawful may size writes (Abandon cause ∷ asks) = Unit {0}
-AsksMeetOwed lawful may size writes (ask ∷ asks) = AsksMeetOwed lawful may size writes asks
+-- the writes that stand where the innermost level is undone: those that it began with
+abbrev pub innermost : List Write → List (List Write) → List Write
+innermost writes [] = writes
+innermost writes (former ∷ levels) = former
 
--- An attempt with these writes at this stage meets what it owes, if it is asked for these where it waits.
-unfoldable pub MeetsOwedAt : (List ℕ → Type 0) → (List ℕ → List ℕ → Type 0) → ℕ → List Ask → List Write → Stage → Type 0
-MeetsOwedAt lawful may size asks writes (AcquireMeta cell value left tried) = AsksMeetOwed lawful may size (put writes cell value) asks
-MeetsOwedAt lawful may size asks writes (Acquire cell value left tried first expected again) = AsksMeetOwed lawful may size (put writes cell value) asks
-MeetsOwedAt lawful may size asks writes (OwnerStatus cell value left first) = AsksMeetOwed lawful may size (put writes cell value) asks
-MeetsOwedAt lawful may size asks writes (OwnerMeta cell value left first status) = AsksMeetOwed lawful may size (put writes cell value) asks
-MeetsOwedAt lawful may size asks writes (DoomOwner cell value left first second status) = AsksMeetOwed lawful may size (put writes cell value) asks
-MeetsOwedAt lawful may size asks writes (ReleaseLevel kept write behind) = ⊥
-MeetsOwedAt lawful may size asks writes (Stopped cause) = Unit {0}
-MeetsOwedAt lawful may size asks writes Prepare = Owes lawful may size [] writes
-MeetsOwedAt lawful may size asks writes (Mark write behind) = Owes lawful may size [] writes
-MeetsOwedAt lawful may size asks writes (CommitClock lost) = Owes lawful may size [] writes
-MeetsOwedAt lawful may size asks writes (CommitNote lost clock note behind) = Owes lawful may size [] writes
-MeetsOwedAt lawful may size asks writes (Decide lost clock) = Owes lawful may size [] writes
-MeetsOwedAt lawful may size asks writes (StoreValues write behind) = Unit {0}
-MeetsOwedAt lawful may size asks writes (Release write behind) = Unit {0}
-MeetsOwedAt lawful may size asks writes (RollBack write behind) = Unit {0}
-MeetsOwedAt lawful may size asks writes Close = Unit {0}
-MeetsOwedAt lawful may size asks writes Ended = Unit {0}
-MeetsOwedAt lawful may size asks writes stage = AsksMeetOwed lawful may size writes asks
+-- the levels around the innermost one
+abbrev pub around : List (List Write) → List (List Write)
+around [] = []
+around (former ∷ levels) = levels
 
--- The caller's attempt meets what it owes, if it is asked for these where it waits.
-abbrev pub MeetsOwedBy : {L : Type 0} → (L → List ℕ → Type 0) → (L → List ℕ → List ℕ → Type 0) → Simulation L → ℕ → List Ask → Type 0
-MeetsOwedBy lawful may c p asks = MeetsOwedAt (lawful c.law) (may c.law) (length c.opening) asks (attempt_in c p).now.writes (attempt_in c p).stage
+-- Asked for these, an attempt with these writes meets what it owes: where Finish comes, its writes then make of any lawful heap a lawful one that it may become. Of each open level the writes are given with which it began, the innermost first. Who gives up owes nothing.
+unfoldable pub AsksMeetOwed : (List ℕ → Type 0) → (List ℕ → List ℕ → Type 0) → ℕ → List Write → List (List Write) → List Ask → Type 0
+AsksMeetOwed lawful may size writes levels [] = Unit {0}
+AsksMeetOwed lawful may size writes levels (Set cell value ∷ asks) = AsksMeetOwed lawful may size (put writes cell.0 value) levels asks
+AsksMeetOwed lawful may size writes levels (Enter ∷ asks) = AsksMeetOwed lawful may size writes (writes ∷ levels) asks
+AsksMeetOwed lawful may size writes levels (Keep ∷ asks) = AsksMeetOwed lawful may size writes (around levels) asks
+AsksMeetOwed lawful may size writes levels (Undo ∷ asks) = AsksMeetOwed lawful may size (innermost writes levels) (around levels) asks
+AsksMeetOwed lawful may size writes levels (Finish ∷ asks) = Owes lawful may size [] writes
+AsksMeetOwed lawful may size writes levels (Abandon cause ∷ asks) = Unit {0}
+AsksMeetOwed lawful may size writes levels (ask ∷ asks) = AsksMeetOwed lawful may size writes levels asks
 
--- ---- within one attempt
-
--- the ending that a reply tells
-abbrev pub told_ending : Option Next → Option Ending
-told_ending (Some (Reply (reply.Ended ending))) = Some ending
-told_ending next = None
-
--- It has begun to commit or to roll back, or is over, so it isn't asked again.
-unfoldable pub IsClosing : Stage → Type 0
-IsClosing Prepare = Unit {0}
-IsClosing (Mark write behind) = Unit {0}
-IsClosing (CommitClock lost) = Unit {0}
-IsClosing (CommitNote lost clock note behind) = Unit {0}
-IsClosing (Decide lost clock) = Unit {0}
-IsClosing (StoreValues write behind) = Unit {0}
-IsClosing (Release write behind) = Unit {0}
-IsClosing (RollBack write behind) = Unit {0}
-IsClosing Close = Unit {0}
-IsClosing Ended = Unit {0}
-IsClosing stage = ⊥
-
--- The entry is one of this attempt.
-pub record IsOf (t : Attempt) (entry : Entry) : Type 0 where
-  pub caller : entry.caller ≡ t.own
-  pub serial : entry.serial ≡ t.serial
-
--- A caller's attempt went on, and was asked for these. Whatever came into the history is its own.
-pub record GoesOn {L : Type 0} (lawful : L → List ℕ → Type 0) (may : L → List ℕ → List ℕ → Type 0) (before : Simulation L) (p : ℕ) (asks : List Ask) (after : Simulation L) : Type 0 where
-  pub events : List Event
-  pub leads : LeadsTo lawful may before p events after
-  pub asked : asks_in events ≡ asks
-  pub same : IsSameOf p before after
-  pub meets : (more : List Ask) → MeetsOwedBy lawful may before p (asks ++ more) → MeetsOwedBy lawful may after p more
-  pub closes : IsClosing (attempt_in before p).stage → IsClosing (attempt_in after p).stage
-  pub entries : List Entry
-  pub history : after.history ≡ before.history ++ entries
-  pub left : All (IsOf (attempt_in before p)) entries
-
--- And it was asked for the first of these, perhaps not for all.
-pub record GoesAlong {L : Type 0} (lawful : L → List ℕ → Type 0) (may : L → List ℕ → List ℕ → Type 0) (before : Simulation L) (p : ℕ) (asks : List Ask) (after : Simulation L) : Type 0 where
-  pub asked : List Ask
-  pub behind : List Ask
-  pub front : asks ≡ asked ++ behind
-  pub goes : GoesOn lawful may before p asked after
+-- With so many levels open before, each of these asks that closes one finds one open, where none is refused.
+unfoldable pub ClosesOpen : ℕ → List Ask → Type 0
+ClosesOpen depth [] = Unit {0}
+ClosesOpen depth (Enter ∷ asks) = ClosesOpen (suc depth) asks
+ClosesOpen depth (Keep ∷ asks) = (0 < depth) × ClosesOpen (depth - 1) asks
+ClosesOpen depth (Undo ∷ asks) = (0 < depth) × ClosesOpen (depth - 1) asks
+ClosesOpen depth (ask ∷ asks) = ClosesOpen depth asks

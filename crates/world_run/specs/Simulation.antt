@@ -6,11 +6,10 @@ use Rattle.opacity.specs.declared.world.World.{World as Table}
 use Rattle.stm_core.specs.declared.next.Next.{Next}
 use Rattle.stm_core.specs.declared.next.Next.TheVariants.{Before, Decide, Reply}
 use Rattle.stm_core.specs.declared.next.Reply.TheVariants as reply
-use Rattle.stm_core.specs.Machine.{IsBuilt, IsSameAttempt, Machine, SettingsFit}
+use Rattle.stm_core.specs.Machine.{IsSameAttempt, Machine, SettingsFit}
 use Rattle.stm_model.specs.Accesses.{ExchangeClock, next}
 use Rattle.stm_model.specs.Attempt.{Attempt, Due, Ended, no_attempt}
 use Rattle.stm_model.specs.CellsState.{Book}
-use Rattle.stm_model.specs.Handlers.{Handlers}
 use Rattle.stm_model.specs.History.{Entry, entry_after}
 use Rattle.stm_model.specs.Moves.{AwaitsAsk, Does, MayAsk}
 use Rattle.stm_model.specs.Owes.{Owes}
@@ -94,27 +93,14 @@ TellsTruth history t (Reply (reply.Stopped cause)) = IsShown t cause
 TellsTruth history t (Reply (reply.Ended ending)) = IsTrueOf history t ending
 TellsTruth history t next = Unit {0}
 
--- what comes next tells that the attempt is over
-abbrev pub tells_end : Next → Bool
-tells_end (Reply (reply.Ended ending)) = true
-tells_end next = false
-
--- what comes next tells that the attempt waits to be asked
-abbrev pub tells_wait : Next → Bool
-tells_wait (Before token) = true
-tells_wait (Reply reply.Ready) = true
-tells_wait (Reply (reply.Value value)) = true
-tells_wait (Reply (reply.Stopped cause)) = true
-tells_wait next = false
-
--- what comes next is a reply, or there is no attempt: nothing is done by itself
+-- what comes next is a reply, or a before-commit body has its turn, or there is no attempt: nothing is done by itself
 abbrev pub replies : Option Next → Bool
 replies None = true
 replies (Some (Before token)) = true
 replies (Some (Reply reply)) = true
 replies (Some next) = false
 
--- The exchange of the clock comes next, the one move that may want memory.
+-- The exchange of the clock comes next, the one thing that an attempt does by itself and that may want memory.
 unfoldable pub IsToDecide : Option Next → Type 0
 IsToDecide (Some (Decide old)) = Unit {0}
 IsToDecide next = ⊥
@@ -139,53 +125,43 @@ pub record IsSameOf {L : Type 0} (p : ℕ) (before after : Simulation L) : Type 
   pub begun : IsSome (machine_at before p) → IsSome (machine_at after p)
   pub same : IsSameAttempt (attempt_in before p) (attempt_in after p)
 
--- An attempt takes the ask wherever it waits for one, over so many cells.
+-- An attempt takes the ask wherever its body waits for one, over so many cells, if a level is open.
 pub record IsAlwaysTaken (size : ℕ) (ask : Ask) : Type 0 where
-  pub built : IsBuilt ask
-  pub able : (t : Attempt) → t.turn ≡ 0 → MayAsk size t ask
+  pub able : (t : Attempt) → t.turn ≡ 0 → 0 < length t.saved → MayAsk size t ask
+
+-- A before-commit body has its turn and waits to ask.
+pub record WaitsLate (t : Attempt) : Type 0 where
+  pub waits : AwaitsAsk t
+  pub late : 0 < t.turn
 
 -- The attempt waits to be asked and may take the ask, over so many cells.
 pub record IsAskable (size : ℕ) (t : Attempt) (ask : Ask) : Type 0 where
   pub waits : AwaitsAsk t
-  pub built : IsBuilt ask
   pub able : MayAsk size t ask
 
 -- ---- how much it may do by itself
 
--- Each access may bring one ring.
+-- how many handlers these books hold, each one for itself
+abbrev pub hooks_in : List Book → ℕ
+hooks_in [] = 0
+hooks_in (book ∷ books) = length book.hooks + hooks_in books
+
+-- Each access may bring one ring and a run of each handler.
 abbrev pub moves_left : Option Machine → ℕ
 moves_left None = 0
-moves_left (Some machine) = 2 * machine.left + length machine.attempt.due
+moves_left (Some machine) = (hooks_in (machine.attempt.now ∷ machine.attempt.saved) + 2) * machine.left + length machine.attempt.due
 
 -- how much a caller's attempt may do by itself before it replies
 abbrev pub left_of : {L : Type 0} → Simulation L → ℕ → ℕ
 left_of c p = moves_left (machine_at c p)
 
--- The event happens, of the caller's attempt, which is the same one and may do less by itself then.
-pub record Advances {L : Type 0} (lawful : L → List ℕ → Type 0) (may : L → List ℕ → List ℕ → Type 0) (p : ℕ) (before : Simulation L) (event : Event) (after : Simulation L) : Type 0 where
-  pub happens : Happens lawful may before event after
-  pub same : IsSameOf p before after
-  pub falls : left_of after p < left_of before p
-
 -- ---- what holds of it
 
--- Levels, handlers and late bodies aren't used, and at most one cell is to be rung for.
-pub record UsesNone (turns : ℕ) (handlers : Handlers) (bodies : List ℕ) (levels : List Book) (dues : List Due) : Type 0 where
-  pub turn : turns ≡ 0
-  pub hooks : handlers ≡ []
-  pub laters : bodies ≡ []
-  pub saved : levels ≡ []
-  pub due : length dues ≤ 1
-
-abbrev pub IsFlat : Attempt → Type 0
-IsFlat t = UsesNone t.turn t.now.hooks t.now.laters t.saved t.due
-
--- The invariant: it shows a world, its settings fit, and of its attempts none uses more than is built.
+-- The invariant: it shows a world, and its settings fit.
 pub record Invariant {L : Type 0} (lawful : L → List ℕ → Type 0) (may : L → List ℕ → List ℕ → Type 0) (c : Simulation L) : Type 0 where
   pub size : length c.machines ≡ c.settings.callers
   pub fits : SettingsFit c.settings
   pub attempts : c.settings.attempts ≤ MAX_SERIAL
-  pub flat : (p : ℕ) → IsCaller (terms_in c) p → IsFlat (attempt_in c p)
   pub world : World
   pub shows : Shows lawful may c world
 

@@ -10,6 +10,6 @@ use stm_model::{Free, Law};
 /// Under the free law any attempt meets what is owed, and so do any asks.
 pub fn the_free_law_owes_nothing()
     ensures next { (simulation : Simulation Free) (p : ℕ) → MeetsOwedNext ⟦<Free as Law>⟧.lawful ⟦<Free as Law>⟧.may simulation p }
-    ensures asks { (law : Free) (size : ℕ) (writes : List Write) (asks : List Ask) →
-        AsksMeetOwed (⟦<Free as Law>⟧.lawful law) (⟦<Free as Law>⟧.may law) size writes asks }
+    ensures asks { (law : Free) (size : ℕ) (writes : List Write) (levels : List (List Write)) (asks : List Ask) →
+        AsksMeetOwed (⟦<Free as Law>⟧.lawful law) (⟦<Free as Law>⟧.may law) size writes levels asks }
 {}

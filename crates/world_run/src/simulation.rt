@@ -9,12 +9,13 @@ ghost use Rattle.stm_core.specs.Machine.{Decides, Makes, Promises, SettingsFit, 
 ghost use Rattle.stm_core.specs.declared.next.Next.TheVariants as coming;
 ghost use Rattle.stm_core.specs.declared.next.Reply.TheVariants as reply;
 ghost use Rattle.stm_model.specs.Attempt.{Ended};
-ghost use Rattle.stm_model.specs.Moves.{AwaitsAsk, Begins, Does, OutOfMemory, Takes};
+ghost use Rattle.stm_model.specs.Moves.{AwaitsAsk, Begins, Does, EndsLate, OutOfMemory, Takes};
 ghost use Rattle.stm_model.specs.World.{IsCaller, Moves, Steps, Terms, opened, place_of};
-ghost use Rattle.world_run.specs.Simulation.{Advances, HasSameTerms, Happens, Invariant, IsAskable, IsOver, IsSameOf, IsToDecide, MayBegin, MeetsOwedNext, Shows, TellsTruth, attempt_in, left_of, machine_at, replies, tells_end, tells_wait, terms_in, turn_of};
-ghost use Rattle.world_run.specs.Places.{HasDue, IsAsked, IsDone, IsGivenWord, MayBeAsked, MayBeGiven, TakesAsk};
+ghost use Rattle.world_run.specs.Going.{Advances, tells_end, tells_wait};
+ghost use Rattle.world_run.specs.Simulation.{HasSameTerms, Happens, Invariant, IsAskable, IsOver, IsSameOf, IsToDecide, MayBegin, MeetsOwedNext, Shows, TellsTruth, WaitsLate, attempt_in, left_of, machine_at, replies, terms_in, turn_of};
+ghost use Rattle.world_run.specs.Places.{HasDue, HasLate, IsAsked, IsDone, IsGivenWord, IsPastLate, MayBeAsked, MayBeGiven, TakesAsk};
 
-use crate::causes::{is_of_body, is_same};
+use crate::causes::is_of_body;
 use meta_word::unpack_status;
 use opacity::World;
 use std::alloc::Global;
@@ -113,7 +114,8 @@ impl<L: Law + Drop> Simulation<L> {
         requires caller { IsCaller (terms_in self.old) caller }
         ensures begins { IsTrue result → Happens L.lawful L.may self.old (Moves caller (Begins self.old.settings)) self.new }
         ensures stays { IsFalse result → self.new ≡ self.old }
-        ensures may { MayBegin self.old caller → IsTrue result }
+        ensures may { IsTrue result → MayBegin self.old caller }
+        ensures told { MayBegin self.old caller → IsTrue result }
         ensures begun { IsTrue result → IsSome (machine_at self.new caller) }
         ensures invariant { IsTrue result → Invariant L.lawful L.may self.old }
         ensures terms { HasSameTerms self.old self.new }
@@ -149,8 +151,8 @@ impl<L: Law + Drop> Simulation<L> {
         ensures may { IsTrue result → IsAskable (length self.now.opening) (attempt_in self.now caller) ask }
         ensures told { IsAskable (length self.now.opening) (attempt_in self.now caller) ask → IsTrue result }
     {
-        match self.next(caller) {
-            Some(next) => waits(next) && takes(next, ask, self.world.opening.len()),
+        match &self.machines[caller as usize - 1] {
+            Some(attempt) => may_take(attempt, ask, self.world.opening.len()),
             None => false,
         }
     }
@@ -173,14 +175,46 @@ impl<L: Law + Drop> Simulation<L> {
         true
     }
 
-    /// Makes what a caller's attempt does next: its next access, or the ring that is due. Where it replies,
-    /// nothing happens. Where it would win the exchange of the clock, its writes have to meet what is owed.
+    // Whether a before-commit body of a caller's attempt waits to ask.
+    fn waits_late(&self, caller: u16) -> bool
+        requires { IsCaller (terms_in self.now) caller }
+        ensures late { IsTrue result → WaitsLate (attempt_in self.now caller) }
+        ensures told { WaitsLate (attempt_in self.now caller) → IsTrue result }
+    {
+        match &self.machines[caller as usize - 1] {
+            Some(attempt) => waits(attempt.next()) && attempt.is_late(),
+            None => false,
+        }
+    }
+
+    /// Ends the before-commit body that has its turn in a caller's attempt, and tells whether it did: it does
+    /// exactly where that body waits to ask.
+    pub fn end_late(&mut self, caller: u16) -> bool
+        requires caller { IsCaller (terms_in self.old) caller }
+        ensures ends { IsTrue result → Happens L.lawful L.may self.old (Moves caller EndsLate) self.new }
+        ensures stays { IsFalse result → self.new ≡ self.old }
+        ensures late { IsTrue result → WaitsLate (attempt_in self.old caller) }
+        ensures told { WaitsLate (attempt_in self.old caller) → IsTrue result }
+        ensures invariant { IsTrue result → Invariant L.lawful L.may self.old }
+        ensures same { IsSameOf caller self.old self.new }
+        ensures terms { HasSameTerms self.old self.new }
+    {
+        if !self.waits_late(caller) {
+            return false;
+        }
+        end_late_at(&mut self.machines, caller as usize - 1);
+        true
+    }
+
+    /// Makes what a caller's attempt does next: its next access, or the ring or the run that is due. Where it
+    /// replies, nothing happens. Where it would win the exchange of the clock, its writes have to meet what is owed.
     /// Out of memory, nothing changes.
     pub fn advance(&mut self, caller: u16) -> Result<(), Memory>
         requires caller { IsCaller (terms_in self.old) caller }
         requires owed { MeetsOwedNext L.lawful L.may self.old caller }
         ensures happens { OnOk result (Happens L.lawful L.may self.old (turn_of caller (attempt_in self.old caller).due) self.new) }
         ensures memory { OnErr result (self.new ≡ self.old) }
+        ensures stays { IsTrue (replies (next_of (attempt_in self.old caller))) → self.new ≡ self.old }
         ensures wants { OnErr result (IsToDecide (next_of (attempt_in self.old caller))) }
         ensures same { IsSameOf caller self.old self.new }
         ensures falls { OnOk result (IsFalse (replies (next_of (attempt_in self.old caller))) → left_of self.new caller < left_of self.old caller) }
@@ -246,6 +280,8 @@ impl<L: Law + Drop> Simulation<L> {
         ensures words { result.now.words.items ≡ self.now.words }
         ensures history { history_of result.now.history.items ≡ self.now.history }
         ensures opening { result.now.opening.items ≡ self.now.opening }
+        ensures callers { result.now.callers ≡ self.now.settings.callers }
+        ensures limit { result.now.limit ≡ self.now.settings.clock }
     {
         &self.world
     }
@@ -299,9 +335,21 @@ fn take(machines: &mut Vec<Option<Attempt>>, place: usize, found: u64)
 }
 
 // What was due first was done for the attempt at this place.
+#[tactic(auto, unfolding(stm_core::specs::Machine::IsToRun))]
 fn did(machines: &mut Vec<Option<Attempt>>, place: usize)
     requires { HasDue machines.old.items place }
     ensures { IsDone machines.old.items machines.new.items place }
+{
+    if let Some(attempt) = &mut machines[place] {
+        attempt.ran();
+    }
+}
+
+// A before-commit body of the attempt at this place is over.
+#[tactic(auto, unfolding(stm_core::specs::Machine::IsToRun))]
+fn end_late_at(machines: &mut Vec<Option<Attempt>>, place: usize)
+    requires { HasLate machines.old.items place }
+    ensures { IsPastLate machines.old.items machines.new.items place }
 {
     if let Some(attempt) = &mut machines[place] {
         attempt.ran();
@@ -335,17 +383,27 @@ fn waits(next: Next) -> bool
     )
 }
 
+// Whether an attempt waits to be asked, and may take the ask, over so many cells.
+fn may_take(attempt: &Attempt, ask: Ask, cells: usize) -> bool
+    ensures may { IsTrue result → IsAskable cells attempt.now.attempt ask }
+    ensures told { IsAskable cells attempt.now.attempt ask → IsTrue result }
+{
+    let next = attempt.next();
+    waits(next) && takes(attempt, next, ask, cells)
+}
+
 // Whether an attempt that waits with this reply may take the ask, over so many cells.
 #[tactic(auto, unfolding(crate::specs::Places::TakesAsk))]
-fn takes(next: Next, ask: Ask, cells: usize) -> bool
-    ensures may { IsTrue result → TakesAsk cells next ask }
-    ensures told { TakesAsk cells next ask → IsTrue result }
+fn takes(attempt: &Attempt, next: Next, ask: Ask, cells: usize) -> bool
+    ensures may { IsTrue result → TakesAsk cells attempt.now.attempt next ask }
+    ensures told { TakesAsk cells attempt.now.attempt next ask → IsTrue result }
 {
     match ask {
         Ask::Get(addr) | Ask::Set(addr, _) => (addr.0 as usize) < cells,
-        Ask::Finish => true,
+        Ask::Enter | Ask::Hook(..) | Ask::Later(_) => true,
+        Ask::Keep | Ask::Undo => attempt.depth() > 0,
+        Ask::Finish => !attempt.is_late(),
         Ask::Abandon(cause) => is_of_body(cause) || was_refused(next, cause),
-        _ => false,
     }
 }
 
@@ -355,7 +413,7 @@ fn was_refused(next: Next, cause: Cause) -> bool
     ensures told { next ≡ coming.Reply (reply.Stopped cause) → IsTrue result }
 {
     match next {
-        Next::Reply(Reply::Stopped(refused)) => is_same(refused, cause),
+        Next::Reply(Reply::Stopped(refused)) => refused.is_same(cause),
         _ => false,
     }
 }

@@ -2,7 +2,7 @@ use Rattle.std.proofs.Common.{Option, IsSome, ap, sym, subst, ◌∙◌}
 use Rattle.stm_core.specs.declared.next.Next.{Next}
 use Rattle.stm_model.specs.declared.ending.Ending.{Ending}
 use Rattle.world_run.specs.Simulation.{attempt_in}
-use Rattle.world_run.specs.Run.{told_ending}
+use Rattle.world_run.specs.Going.{told_ending}
 use Rattle.world_run.proofs.Ran.{tells_ending, told_some}
 use Rattle.world_run.proofs.simulation.Simulation.ending.Goals as goal
 

@@ -1,27 +1,28 @@
 use Rattle.std.proofs.Common.{inl, inr, [], ◌∷◌, ◌++◌}
 use Rattle.stm_model.specs.declared.access.Ask.TheVariants.{Finish}
-use Rattle.world_run.specs.Run.{MeetsOwedAt}
-use Rattle.world_run.proofs.Bodies.{along_body, along_from, along_more, along_whole}
+use Rattle.world_run.specs.Going.{MeetsOwedAt}
+use Rattle.world_run.proofs.Bodies.{along_from, along_none, body_along, body_whole, lost_meets}
 use Rattle.world_run.proofs.simulation.Simulation.run_body.Goals as goal
 
-pub settle-requires-clause-owed : goal.settle-requires-clause-owed
-settle-requires-clause-owed g c = (c.args.asks.now ++ Finish ∷ [], c.requires.owed)
+pub go_on-requires-clause-owed : goal.go_on-requires-clause-owed
+go_on-requires-clause-owed g c = (c.args.asks.now ++ Finish ∷ [], c.requires.owed)
 
 pub finish-requires-clause-owed : goal.finish-requires-clause-owed
 unfolding MeetsOwedAt
-finish-requires-clause-owed g c = elim c.in_ok-ask_all.ensures.goes [
-  | inl goes ↦ goes.meets (Finish ∷ []) (c.settle.ensures.goes.meets (c.args.asks.now ++ Finish ∷ []) c.requires.owed)
-  | inr over ↦ rw over tt
+finish-requires-clause-owed g c = elim c.in_ok-ask_all.ensures.through [
+  | inl goes ↦ goes.meets (Finish ∷ []) (c.go_on.ensures.goes.meets (c.args.asks.now ++ Finish ∷ []) c.requires.owed)
+  | inr (inl over) ↦ rw over tt
+  | inr (inr cut) ↦ lost_meets _ _ _ _ _ _ _ _ _ cut.lost
 ]
 
-pub returns-in_err-settle-clause-along : goal.returns-in_err-settle-clause-along
-returns-in_err-settle-clause-along g c = along_more (c.args.asks.now ++ Finish ∷ []) (along_whole c.settle.ensures.goes)
+pub returns-in_err-go_on-clause-body : goal.returns-in_err-go_on-clause-body
+returns-in_err-go_on-clause-body g c = body_along (along_none c.args.asks.now c.go_on.ensures.goes)
 
-pub returns-in_err-ask_all-clause-along : goal.returns-in_err-ask_all-clause-along
-returns-in_err-ask_all-clause-along g c = along_more (Finish ∷ []) (along_from c.settle.ensures.goes c.ask_all.ensures.along)
+pub returns-in_err-ask_all-clause-body : goal.returns-in_err-ask_all-clause-body
+returns-in_err-ask_all-clause-body g c = body_along (along_from c.go_on.ensures.goes c.ask_all.ensures.along)
 
-pub returns-in_err-finish-clause-along : goal.returns-in_err-finish-clause-along
-returns-in_err-finish-clause-along g c = along_body c.settle.ensures.goes c.ask_all.ensures.along c.in_ok-ask_all.ensures.goes c.finish.ensures.goes
+pub returns-in_err-finish-clause-body : goal.returns-in_err-finish-clause-body
+returns-in_err-finish-clause-body g c = body_whole c.go_on.ensures.goes c.ask_all.ensures.along c.in_ok-ask_all.ensures.through c.finish.ensures.goes c.finish.ensures.closing
 
-pub returns-clause-along : goal.returns-clause-along
-returns-clause-along g c = along_body c.settle.ensures.goes c.ask_all.ensures.along c.in_ok-ask_all.ensures.goes c.finish.ensures.goes
+pub returns-clause-body : goal.returns-clause-body
+returns-clause-body g c = body_whole c.go_on.ensures.goes c.ask_all.ensures.along c.in_ok-ask_all.ensures.through c.finish.ensures.goes c.finish.ensures.closing

@@ -1,11 +1,16 @@
-use Rattle.world_run.specs.Simulation.{attempt_in}
+use Rattle.std.proofs.Common.{◌≡◌, IsTrue, Bool, true, false, refl, sym, ◌∙◌}
+use Rattle.stm_core.specs.Machine.{next_of}
+use Rattle.world_run.specs.Simulation.{attempt_in, replies}
 use Rattle.world_run.proofs.Going.{goes_none, goes_on, turns_on}
 use Rattle.world_run.proofs.Owing.{owes_next}
 use Rattle.world_run.proofs.Seats.{caller_then}
 use Rattle.world_run.proofs.simulation.Simulation.settle.Goals as goal
 
+still : {b : Bool} → b ≡ false → b ≡ true → ⊥
+still one other = cc (sym one ∙ other)
+
 pub loop-self-init : goal.loop-self-init
-loop-self-init g c = record { caller = c.requires.caller; goes = goes_none c.args.self.now }
+loop-self-init g c = record { caller = c.requires.caller; goes = goes_none c.args.self.now; stays = λ replied. refl }
 
 pub advance-requires-clause-owed : goal.advance-requires-clause-owed
 advance-requires-clause-owed g c = λ wins.
@@ -22,5 +27,6 @@ loop-self-preserved g c =
     let whole = c.replies.ensures.invariant in
     record {
       caller = caller_then c.args.caller c.advance.ensures.terms caller;
+      stays = λ replied. let here : IsTrue (replies (next_of (attempt_in c.loop-self.self c.args.caller))) = rw (c.loop-self.invariant.stays replied) replied in absurd (still c.loop-self-test.true (c.replies.ensures.told ∙ here));
       goes = goes_on c.loop-self.invariant.goes (turns_on c.args.caller whole.world whole.shows caller c.advance.ensures.same (attempt_in here c.args.caller).due happens);
     }
