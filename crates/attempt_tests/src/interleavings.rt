@@ -6,9 +6,10 @@ ghost use Rattle.meta_word.specs.Policy.{looks};
 use opacity::Committed;
 use std::alloc::Global;
 use std::collections::BTreeSet;
+use std::process::Abort;
 use std::test::Fail;
 use stm_core::{Next, Reply};
-use stm_model::{Addr, Ask, Ending, Free, Policy, Settings, Word};
+use stm_model::{Addr, Ask, Ending, Free, HookPhase, Policy, Settings, Word};
 use world_run::Simulation;
 use world_run::laws::the_free_law_owes_nothing;
 
@@ -20,6 +21,9 @@ const OPENING: [u64; 2] = [1, 1];
 enum Script {
     /// Adds one to cell 0.
     AddOne,
+    /// Does the same, once it has undone a level that wrote cell 1. It has a handler of a rollback, registered in
+    /// that level, and one of a commit.
+    UndoAndAddOne,
     /// Puts the sum of both cells into one of them.
     PutSum(u32),
     /// Reads both cells.
@@ -72,10 +76,25 @@ impl Actor {
         match (self.script, self.asked) {
             (Script::AddOne | Script::PutSum(_) | Script::ReadBoth, 0) => Ask::Get(zero),
             (Script::AddOne, 1) => Ask::Set(zero, self.sum().wrapping_add(1)),
+            (Script::UndoAndAddOne, asked) => self.next_with_level(asked),
             (Script::PutSum(_) | Script::ReadBoth, 1) => Ask::Get(one),
             (Script::PutSum(cell), 2) => Ask::Set(Addr(cell), self.sum()),
             (Script::WriteBoth(value), 0) => Ask::Set(zero, value),
             (Script::WriteBoth(value), 1) => Ask::Set(one, value),
+            _ => Ask::Finish,
+        }
+    }
+
+    // What it asks behind so many asks, where it undoes a level.
+    fn next_with_level(&self, asked: usize) -> Ask {
+        match asked {
+            0 => Ask::Get(Addr(0)),
+            1 => Ask::Enter,
+            2 => Ask::Set(Addr(1), 9),
+            3 => Ask::Hook(HookPhase::Rollback, 1),
+            4 => Ask::Undo,
+            5 => Ask::Hook(HookPhase::Commit, 2),
+            6 => Ask::Set(Addr(0), self.sum().wrapping_add(1)),
             _ => Ask::Finish,
         }
     }
@@ -111,7 +130,8 @@ fn opened(alloc: Global, policy: Policy, scripts: (Script, Script)) -> Result<Pa
     })
 }
 
-// Takes the reply of an attempt that waits to be asked, and asks it. Tells whether it waited.
+// Runs a handler that is due, which touches no shared word, or asks an attempt that waits to be asked, once it has
+// taken its reply. Tells whether it did either.
 fn ask_once(simulation: &mut Simulation<Free>, actor: &mut Actor) -> Result<bool, Fail>
     requires { simulation.old.settings.callers ≡ 2 }
     ensures { simulation.new.settings.callers ≡ 2 }
@@ -124,6 +144,11 @@ fn ask_once(simulation: &mut Simulation<Free>, actor: &mut Actor) -> Result<bool
             actor.next_ask()
         }
         Some(Next::Reply(Reply::Stopped(_))) => Ask::Finish,
+        Some(Next::Run { .. }) => {
+            the_free_law_owes_nothing();
+            simulation.advance(caller)?;
+            return Ok(true);
+        }
         _ => return Ok(false),
     };
     actor.asked = actor.asked.wrapping_add(1);
@@ -305,18 +330,35 @@ fn sums_in_order(history: &[Committed]) -> (u64, u64) {
     cells
 }
 
+// All has been explored. Whoever committed has added one to cell 0, nobody has written cell 1, both have ended, and
+// somewhere both have committed and somewhere one.
+fn each_added_one(rt: &impl Abort, reached: &Reached) {
+    assert!(rt; reached.whole);
+    for end in &reached.ends {
+        let committed = end.pair.simulation.world().history.len() as u64;
+        assert_eq!(rt; end.pair.value(0), Some(committed.wrapping_add(1)));
+        assert_eq!(rt; end.pair.value(1), Some(1));
+        assert!(rt; end.endings.0.is_some() && end.endings.1.is_some());
+    }
+    assert!(rt; ends_with(reached, 2) > 0);
+    assert!(rt; ends_with(reached, 1) > 0);
+}
+
 #[test]
 fn no_update_is_lost(rt: HostRuntime) -> Result<(), Fail> {
     for policy in POLICIES {
         let reached = explore(rt.alloc(), policy, (Script::AddOne, Script::AddOne))?;
-        assert!(rt; reached.whole);
-        for end in &reached.ends {
-            let committed = end.pair.simulation.world().history.len() as u64;
-            assert_eq!(rt; end.pair.value(0), Some(committed.wrapping_add(1)));
-            assert!(rt; end.endings.0.is_some() && end.endings.1.is_some());
-        }
-        assert!(rt; ends_with(&reached, 2) > 0);
-        assert!(rt; ends_with(&reached, 1) > 0);
+        each_added_one(&rt, &reached);
+    }
+    Ok(())
+}
+
+#[test]
+fn no_update_is_lost_behind_a_level_that_was_undone(rt: HostRuntime) -> Result<(), Fail> {
+    for policy in POLICIES {
+        let scripts = (Script::UndoAndAddOne, Script::UndoAndAddOne);
+        let reached = explore(rt.alloc(), policy, scripts)?;
+        each_added_one(&rt, &reached);
     }
     Ok(())
 }

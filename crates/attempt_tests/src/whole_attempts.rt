@@ -22,7 +22,7 @@ fn opened(rt: &HostRuntime) -> Result<Simulation<Free>, Fail>
 }
 
 #[test]
-#[tactic(auto, unfolding(stm_core::specs::Machine::IsBuilt, stm_model::specs::Moves::MayAsk, world_run::specs::Run::AsksMeetOwed))]
+#[tactic(auto, unfolding(stm_model::specs::Moves::MayAsk, world_run::specs::Run::AsksMeetOwed, world_run::specs::Run::ClosesOpen))]
 fn a_read_and_a_write_commit_and_leave_an_entry(rt: HostRuntime) -> Result<(), Fail> {
     the_free_law_owes_nothing();
     let mut simulation = opened(&rt)?;
@@ -43,7 +43,7 @@ fn a_read_and_a_write_commit_and_leave_an_entry(rt: HostRuntime) -> Result<(), F
 }
 
 #[test]
-#[tactic(auto, unfolding(stm_core::specs::Machine::IsBuilt, stm_model::specs::Moves::MayAsk, world_run::specs::Run::AsksMeetOwed))]
+#[tactic(auto, unfolding(stm_model::specs::Moves::MayAsk, world_run::specs::Run::AsksMeetOwed, world_run::specs::Run::ClosesOpen))]
 fn who_asks_to_retry_leaves_no_entry(rt: HostRuntime) -> Result<(), Fail> {
     the_free_law_owes_nothing();
     let mut simulation = opened(&rt)?;
@@ -60,7 +60,7 @@ fn who_asks_to_retry_leaves_no_entry(rt: HostRuntime) -> Result<(), Fail> {
 }
 
 #[test]
-#[tactic(auto, unfolding(stm_core::specs::Machine::IsBuilt, stm_model::specs::Moves::MayAsk, world_run::specs::Run::AsksMeetOwed))]
+#[tactic(auto, unfolding(stm_model::specs::Moves::MayAsk, world_run::specs::Run::AsksMeetOwed, world_run::specs::Run::ClosesOpen))]
 fn a_later_attempt_reads_what_committed(rt: HostRuntime) -> Result<(), Fail> {
     the_free_law_owes_nothing();
     let mut simulation = opened(&rt)?;

@@ -14,6 +14,3 @@ pub use listing::{Listing, Names, Rolled, RolledList, Row, RowResult};
 pub use reason::Reason;
 pub use rows::Rows;
 pub use script::{Block, Operand, Parts, Script, Statement};
-
-#[cfg(test)]
-mod tests;

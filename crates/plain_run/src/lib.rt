@@ -3,8 +3,6 @@
 
 mod machine;
 mod opening;
-#[cfg(test)]
-mod tests;
 mod turns;
 
 pub use machine::{Ran, run_script};

@@ -10,6 +10,3 @@ mod words;
 
 pub use fault::ParseFault;
 pub use job_text::parse;
-
-#[cfg(test)]
-mod tests;

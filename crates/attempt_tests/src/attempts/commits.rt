@@ -2,8 +2,8 @@
 ghost use Rattle.std.specs.Prelude.{◌≡◌};
 
 use super::{
-    CHANGING, CLOCK, OWNER, OWNER_AND_CHANGING, PENDING, ask, begun, ended, go, look, read, store,
-    write,
+    CHANGING, CLOCK, OWNER, PENDING, ask, begun, close, ended, give_back, go, look, mark, prepare,
+    read, store, write,
 };
 use meta_word::Phase;
 use std::alloc::Global;
@@ -22,27 +22,10 @@ fn committing(rt: &impl Abort, alloc: Global) -> Attempt
     attempt
 }
 
-// The exchange from active to preparing.
-fn prepare() -> Next {
-    Next::Access(Access::Exchange {
-        word: Word::Status(7),
-        old: 13,
-        new: 14,
-    })
-}
-
-fn mark() -> Next {
-    Next::Access(Access::SetBits(Word::Meta(Addr(3)), CHANGING))
-}
-
-fn give_back() -> Next {
-    Next::Access(Access::ClearBits(Word::Meta(Addr(3)), OWNER_AND_CHANGING))
-}
-
 #[test]
 fn a_writer_commits_and_rings_for_who_waits(rt: HostRuntime) {
     let mut attempt = committing(&rt, rt.alloc());
-    go(&rt, &mut attempt, &[(prepare(), 13), (mark(), 7 * OWNER)]);
+    go(&rt, &mut attempt, &[(prepare(), 13), (mark(3), 7 * OWNER)]);
     go(
         &rt,
         &mut attempt,
@@ -53,7 +36,7 @@ fn a_writer_commits_and_rings_for_who_waits(rt: HostRuntime) {
         (store(Word::Value(Addr(3)), 30), 0),
         (release, CHANGING + PENDING + 7 * OWNER),
         (Next::Ring(Addr(3)), 0),
-        (store(Word::Status(7), 12), 14),
+        (close(), 14),
     ];
     go(&rt, &mut attempt, &steps);
     ended(&rt, &attempt, Ending::Committed { stamp: 6 });
@@ -65,11 +48,7 @@ fn who_was_doomed_finds_it_as_it_prepares(rt: HostRuntime) {
     go(
         &rt,
         &mut attempt,
-        &[
-            (prepare(), 15),
-            (give_back(), 7 * OWNER),
-            (store(Word::Status(7), 12), 15),
-        ],
+        &[(prepare(), 15), (give_back(3), 7 * OWNER), (close(), 15)],
     );
     let status = TxnStatus {
         serial: 3,
@@ -88,15 +67,15 @@ fn who_was_doomed_finds_it_as_it_prepares(rt: HostRuntime) {
 #[test]
 fn a_clock_at_its_limit_ends_it_at_that_prefix(rt: HostRuntime) {
     let mut attempt = committing(&rt, rt.alloc());
-    go(&rt, &mut attempt, &[(prepare(), 13), (mark(), 7 * OWNER)]);
+    go(&rt, &mut attempt, &[(prepare(), 13), (mark(3), 7 * OWNER)]);
     go(
         &rt,
         &mut attempt,
         &[
             (CLOCK, 9),
             (look(2), 1),
-            (give_back(), CHANGING + 7 * OWNER),
-            (store(Word::Status(7), 12), 14),
+            (give_back(3), CHANGING + 7 * OWNER),
+            (close(), 14),
         ],
     );
     ended(

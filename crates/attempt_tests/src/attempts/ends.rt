@@ -1,22 +1,15 @@
-//! Attempts that are never refused anything: readers, and bodies that ask to be run again.
+//! Attempts that are never refused anything: readers, bodies that ask to be run again, and what is left for the
+//! next attempt.
+ghost use Rattle.std.specs.Prelude.{◌≡◌};
 
 use super::{
-    CLOCK, OWNER, OWNER_AND_CHANGING, PENDING, ask, begin, begun, ended, go, load, look, read,
-    store, write,
+    CLOCK, OWNER, PENDING, ask, begin, begun, close, ended, give_back, go, load, look, read,
+    settle, store, write,
 };
 use std::process::Abort;
 use std::test::Fail;
-use stm_core::{Ask, Ending, Next, Reply};
-use stm_model::{Access, Addr, Cause, Note, Word};
-
-#[test]
-fn a_reader_ends_at_its_prefix_and_tries_for_no_clock(rt: HostRuntime) {
-    let mut attempt = begun(&rt, rt.alloc(), 4);
-    read(&rt, &mut attempt, 2, 1, 10);
-    ask(&rt, &mut attempt, Ask::Finish);
-    go(&rt, &mut attempt, &[(store(Word::Status(7), 12), 13)]);
-    ended(&rt, &attempt, Ending::Read { prefix: 4 });
-}
+use stm_core::{Ask, Attempt, Ending, Next, Reply};
+use stm_model::{Addr, Cause, Note, Word};
 
 #[test]
 fn a_newer_version_moves_the_prefix(rt: HostRuntime) {
@@ -31,7 +24,7 @@ fn a_newer_version_moves_the_prefix(rt: HostRuntime) {
     );
     assert_eq!(rt; attempt.next(), Next::Reply(Reply::Value(30)));
     ask(&rt, &mut attempt, Ask::Finish);
-    go(&rt, &mut attempt, &[(store(Word::Status(7), 12), 13)]);
+    go(&rt, &mut attempt, &[(close(), 13)]);
     ended(&rt, &attempt, Ending::Read { prefix: 5 });
 }
 
@@ -60,7 +53,7 @@ fn who_is_to_be_run_again_gives_its_cells_back(rt: HostRuntime) {
         (give_back(2), 7 * OWNER + 1),
         (give_back(3), PENDING + 7 * OWNER),
         (Next::Ring(Addr(3)), 0),
-        (store(Word::Status(7), 12), 13),
+        (close(), 13),
     ];
     go(&rt, &mut attempt, &steps);
     ended(
@@ -73,18 +66,13 @@ fn who_is_to_be_run_again_gives_its_cells_back(rt: HostRuntime) {
     );
 }
 
-// The owner's bits and the changing bit of a cell are cleared.
-fn give_back(cell: u32) -> Next {
-    Next::Access(Access::ClearBits(Word::Meta(Addr(cell)), OWNER_AND_CHANGING))
-}
-
 #[test]
 fn what_it_has_read_outlives_it(rt: HostRuntime) {
     let mut attempt = begun(&rt, rt.alloc(), 4);
     read(&rt, &mut attempt, 2, 1, 10);
     read(&rt, &mut attempt, 5, 4, 50);
     ask(&rt, &mut attempt, Ask::Finish);
-    go(&rt, &mut attempt, &[(store(Word::Status(7), 12), 13)]);
+    go(&rt, &mut attempt, &[(close(), 13)]);
     if let Next::Reply(Reply::Ended(_)) = attempt.next() {
         let reads = attempt.into_reads();
         assert_eq!(rt; reads.len(), 2);
@@ -118,5 +106,38 @@ fn reserved_room_is_enough_for_so_many_cells(rt: HostRuntime) -> Result<(), Fail
     }
     assert_eq!(rt; attempt.reads().len(), 4);
     assert_eq!(rt; attempt.writes().len(), 4);
+    Ok(())
+}
+
+// The attempt begins, reads two cells and writes one, alone.
+fn read_and_write(rt: &impl Abort, attempt: &mut Attempt)
+    requires { attempt.old.attempt.settings.clock ≡ 9 }
+    ensures clock { attempt.new.attempt.settings.clock ≡ 9 }
+    ensures serial { attempt.new.attempt.serial ≡ attempt.old.attempt.serial }
+{
+    settle(rt, attempt, 0);
+    ask(rt, attempt, Ask::Get(Addr(0)));
+    settle(rt, attempt, 0);
+    ask(rt, attempt, Ask::Get(Addr(1)));
+    settle(rt, attempt, 0);
+    ask(rt, attempt, Ask::Set(Addr(2), 5));
+    settle(rt, attempt, 0);
+    assert_eq!(rt; attempt.next(), Next::Reply(Reply::Ready));
+}
+
+#[test]
+fn the_next_attempt_has_the_room_of_the_former(rt: HostRuntime) -> Result<(), Fail> {
+    let mut attempt = begin(rt.alloc());
+    attempt.reserve(2, 1)?;
+    read_and_write(&rt, &mut attempt);
+    ask(&rt, &mut attempt, Ask::Finish);
+    settle(&rt, &mut attempt, 0);
+    ended(&rt, &attempt, Ending::Committed { stamp: 1 });
+    if let Next::Reply(Reply::Ended(_)) = attempt.next() {
+        attempt.again(4);
+        let room = attempt.room();
+        assert!(rt; room.reads >= 2 && room.writes >= 1);
+        read_and_write(&rt, &mut attempt);
+    }
     Ok(())
 }

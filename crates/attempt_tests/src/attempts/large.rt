@@ -1,40 +1,13 @@
 //! A large attempt, alone on cells of version 0 whose values are twice their numbers.
-ghost use Rattle.std.specs.Prelude.{◌≡◌};
 
-use super::{answer, ask, begin, ended};
+use super::{ask, begin, ended, settle};
 use std::process::Abort;
-use stm_core::{Ask, Attempt, Ending, Next, Reply};
-use stm_model::{Access, Addr, Word};
+use stm_core::{Ask, Ending, Next, Reply};
+use stm_model::Addr;
 
 const READS: u32 = 1_000;
 
 const WRITES: u32 = 100;
-
-// The word that an access finds.
-fn found(access: Access) -> u64 {
-    match access {
-        Access::Load(Word::Value(cell)) => 2 * u64::from(cell.0),
-        Access::Exchange { old, .. } => old,
-        _ => 0,
-    }
-}
-
-// The attempt goes on to its reply. These are the accesses that it makes, with those before.
-fn settle(rt: &impl Abort, attempt: &mut Attempt, before: u32) -> u32
-    requires { attempt.old.attempt.settings.clock ≡ 9 }
-    ensures { attempt.new.attempt.settings.clock ≡ 9 }
-{
-    let mut accesses = before;
-    for _ in 0..10_000 {
-        match attempt.next() {
-            Next::Access(access) => answer(rt, attempt, found(access)),
-            Next::Decide { old } => answer(rt, attempt, old),
-            _ => break,
-        }
-        accesses = accesses.saturating_add(1);
-    }
-    accesses
-}
 
 #[test]
 fn many_cells_take_the_accesses_of_each(rt: HostRuntime) {

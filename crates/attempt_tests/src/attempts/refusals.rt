@@ -1,11 +1,12 @@
 //! An attempt that is refused a read.
 ghost use Rattle.std.specs.Prelude.{◌≡◌};
 
-use super::{CHANGING, OWNER, OWNER_AND_CHANGING, ask, begun, ended, go, look, store, write};
-use std::alloc::Global;
+use super::{
+    CHANGING, OWNER, ask, begun, close, do_at_once, ended, give_back, go, look, run, write,
+};
 use std::process::Abort;
 use stm_core::{Ask, Attempt, Ending, Next, Reply};
-use stm_model::{Access, Addr, Cause, Meta, Word};
+use stm_model::{Addr, Cause, HookPhase, Meta};
 
 // Caller 8 is changing cell 2.
 fn conflict() -> Cause {
@@ -20,20 +21,20 @@ fn conflict() -> Cause {
     }
 }
 
-// An attempt that has written cell 3 and was refused cell 2.
-fn refused(rt: &impl Abort, alloc: Global) -> Attempt
-    ensures { result.attempt.settings.clock ≡ 9 }
+// The attempt writes cell 3 and is refused cell 2.
+fn be_refused(rt: &impl Abort, attempt: &mut Attempt)
+    requires { attempt.old.attempt.settings.clock ≡ 9 }
+    ensures { attempt.new.attempt.settings.clock ≡ 9 }
 {
-    let mut attempt = begun(rt, alloc, 4);
-    write(rt, &mut attempt, 3, 0, 30);
-    ask(rt, &mut attempt, Ask::Get(Addr(2)));
-    go(rt, &mut attempt, &[(look(2), CHANGING + 8 * OWNER + 1)]);
-    attempt
+    write(rt, attempt, 3, 0, 30);
+    ask(rt, attempt, Ask::Get(Addr(2)));
+    go(rt, attempt, &[(look(2), CHANGING + 8 * OWNER + 1)]);
 }
 
 #[test]
 fn who_was_refused_is_told_the_same_of_each_cell(rt: HostRuntime) {
-    let mut attempt = refused(&rt, rt.alloc());
+    let mut attempt = begun(&rt, rt.alloc(), 4);
+    be_refused(&rt, &mut attempt);
     let stopped = Next::Reply(Reply::Stopped(conflict()));
     assert_eq!(rt; attempt.next(), stopped);
     for asked in [
@@ -50,13 +51,13 @@ fn who_was_refused_is_told_the_same_of_each_cell(rt: HostRuntime) {
 #[test]
 fn who_was_refused_ends_with_that_cause(rt: HostRuntime) {
     for end in [Ask::Finish, Ask::Abandon(Cause::Retry)] {
-        let mut attempt = refused(&rt, rt.alloc());
+        let mut attempt = begun(&rt, rt.alloc(), 4);
+        be_refused(&rt, &mut attempt);
         ask(&rt, &mut attempt, end);
-        let give_back = Next::Access(Access::ClearBits(Word::Meta(Addr(3)), OWNER_AND_CHANGING));
         go(
             &rt,
             &mut attempt,
-            &[(give_back, 7 * OWNER), (store(Word::Status(7), 12), 13)],
+            &[(give_back(3), 7 * OWNER), (close(), 13)],
         );
         ended(
             &rt,
@@ -67,4 +68,35 @@ fn who_was_refused_ends_with_that_cause(rt: HostRuntime) {
             },
         );
     }
+}
+
+#[test]
+fn levels_are_closed_after_a_refusal_and_nothing_is_undone(rt: HostRuntime) {
+    let mut attempt = begun(&rt, rt.alloc(), 4);
+    let asks = [Ask::Enter, Ask::Enter, Ask::Hook(HookPhase::Rollback, 9)];
+    do_at_once(&rt, &mut attempt, &asks);
+    be_refused(&rt, &mut attempt);
+    let stopped = Next::Reply(Reply::Stopped(conflict()));
+    ask(&rt, &mut attempt, Ask::Undo);
+    assert_eq!(rt; (attempt.next(), attempt.depth()), (stopped, 1));
+    ask(&rt, &mut attempt, Ask::Keep);
+    assert_eq!(rt; (attempt.next(), attempt.depth()), (stopped, 0));
+    ask(&rt, &mut attempt, Ask::Finish);
+    go(
+        &rt,
+        &mut attempt,
+        &[
+            (give_back(3), 7 * OWNER),
+            (close(), 13),
+            (run(HookPhase::Rollback, 9), 0),
+        ],
+    );
+    ended(
+        &rt,
+        &attempt,
+        Ending::Rolled {
+            cause: conflict(),
+            prefix: 4,
+        },
+    );
 }

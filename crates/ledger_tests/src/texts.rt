@@ -1,7 +1,7 @@
 //! Texts that are refused, texts that are taken, and the jobs that they say.
 
-use crate::{ParseFault, parse};
 use ledger_model::{Operand, Reason, Statement};
+use script_text::{ParseFault, parse};
 use std::alloc::{AllocError, Global};
 use std::test::Fail;
 

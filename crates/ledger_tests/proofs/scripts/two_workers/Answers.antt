@@ -1,5 +1,5 @@
 use Rattle.std.proofs.Common.{◌≡◌, [], ◌∷◌, refl, lit<, lit≤}
-use Rattle.plain_run.proofs.tests.two_workers.Goals as goal
+use Rattle.ledger_tests.proofs.scripts.two_workers.Goals as goal
 
 workers : (c : goal.After-new-2) → c.push-4.new.self ≡ (c.in_ok-adds.field-0 ∷ []) ∷ (c.in_ok-adds-2.field-0 ∷ []) ∷ []
 workers c =

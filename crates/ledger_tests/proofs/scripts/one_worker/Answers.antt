@@ -1,5 +1,5 @@
 use Rattle.std.proofs.Common.{◌≡◌, [], ◌∷◌, refl, lit<, lit≤}
-use Rattle.plain_run.proofs.tests.one_worker.Goals as goal
+use Rattle.ledger_tests.proofs.scripts.one_worker.Goals as goal
 
 workers : (c : goal.After-new) → c.push-4.new.self ≡ (c.in_ok-adds.field-0 ∷ c.in_ok-reads.field-0 ∷ []) ∷ []
 workers c = rw (c.in_ok-push-4.ensures.ok, c.in_ok-push-3.ensures.ok, c.in_ok-push-2.ensures.ok, c.new-workers.ensures, c.new-scripts.ensures) refl

@@ -4,11 +4,11 @@ ghost use Rattle.ledger_model.specs.Fits.{JobFits, ScriptFits};
 ghost use Rattle.ledger_model.specs.Straight.{IsStraight, IsStraightScript};
 ghost use Rattle.plain_run.specs.Counts.{script_count};
 
-use crate::{run_in_turn, run_script};
 use ledger_model::{
     Block, Contents, Job, Listing, Openings, Operand, PairLists, Row, Script, Scripts, Statement,
     Steps, Workers,
 };
+use plain_run::{run_in_turn, run_script};
 use std::alloc::Global;
 use std::test::Fail;
 use stm_model::{Memory, Policy, Settings, Words};

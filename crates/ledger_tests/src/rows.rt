@@ -1,5 +1,5 @@
 //! Rows and their order.
-use crate::{Row, RowResult, Rows};
+use ledger_model::{Row, RowResult, Rows};
 use std::alloc::Global;
 use std::test::Fail;
 use stm_model::{Runs, Words};
