@@ -132,7 +132,7 @@ fn end_late(rt: &impl Abort, attempt: &mut Attempt)
 {
     assert!(rt; attempt.is_late());
     match attempt.next() {
-        Next::Before { .. } | Next::Reply(Reply::Ready) => attempt.ran(),
+        Next::Before { .. } | Next::Reply(Reply::Ready | Reply::Stopped(_)) => attempt.ran(),
         _ => assert!(rt; false, "no body has its turn"),
     }
 }

@@ -2,12 +2,12 @@
 ghost use Rattle.std.specs.Prelude.{◌≡◌};
 
 use super::{
-    CHANGING, CLOCK, OWNER, ask, begin, begun, close, do_at_once, end_late, ended, go, mark,
-    prepare, read, run, settle, store, write,
+    CHANGING, CLOCK, OWNER, ask, begin, begun, close, do_at_once, end_late, ended, give_back, go,
+    mark, prepare, read, run, settle, store, write,
 };
 use std::alloc::Global;
 use std::process::Abort;
-use stm_core::{Ask, Attempt, Ending, Next};
+use stm_core::{Ask, Attempt, Ending, Next, Reply};
 use stm_model::{Access, Addr, Cause, HookPhase, Word};
 
 #[test]
@@ -111,4 +111,34 @@ fn before_commit_bodies_have_their_turns_and_then_it_commits(rt: HostRuntime) {
     end_late(&rt, &mut attempt);
     settle(&rt, &mut attempt, 0);
     ended(&rt, &attempt, Ending::Committed { stamp: 1 });
+}
+
+#[test]
+fn a_before_commit_body_takes_every_ask(rt: HostRuntime) {
+    let mut attempt = begun(&rt, rt.alloc(), 4);
+    do_at_once(&rt, &mut attempt, &[Ask::Later(5)]);
+    ask(&rt, &mut attempt, Ask::Finish);
+    assert_eq!(rt; attempt.next(), Next::Before { token: 5 });
+    read(&rt, &mut attempt, 2, 1, 10);
+    write(&rt, &mut attempt, 3, 0, 30);
+    let undone = [
+        Ask::Enter,
+        Ask::Set(Addr(3), 31),
+        Ask::Hook(HookPhase::Commit, 6),
+        Ask::Undo,
+    ];
+    do_at_once(&rt, &mut attempt, &undone);
+    ask(&rt, &mut attempt, Ask::Get(Addr(3)));
+    assert_eq!(rt; attempt.next(), Next::Reply(Reply::Value(30)));
+    do_at_once(&rt, &mut attempt, &[Ask::Enter, Ask::Later(8), Ask::Keep]);
+    end_late(&rt, &mut attempt);
+    assert_eq!(rt; attempt.next(), Next::Before { token: 8 });
+    let cause = Cause::User { code: 2 };
+    ask(&rt, &mut attempt, Ask::Abandon(cause));
+    go(
+        &rt,
+        &mut attempt,
+        &[(give_back(3), 7 * OWNER), (close(), 13)],
+    );
+    ended(&rt, &attempt, Ending::Rolled { cause, prefix: 4 });
 }

@@ -2,7 +2,8 @@
 ghost use Rattle.std.specs.Prelude.{◌≡◌};
 
 use super::{
-    CHANGING, OWNER, ask, begun, close, do_at_once, ended, give_back, go, look, run, write,
+    CHANGING, OWNER, ask, begun, close, do_at_once, end_late, ended, give_back, go, look, run,
+    write,
 };
 use std::process::Abort;
 use stm_core::{Ask, Attempt, Ending, Next, Reply};
@@ -32,7 +33,7 @@ fn be_refused(rt: &impl Abort, attempt: &mut Attempt)
 }
 
 #[test]
-fn who_was_refused_is_told_the_same_of_each_cell(rt: HostRuntime) {
+fn who_was_refused_is_told_the_same_of_each_call(rt: HostRuntime) {
     let mut attempt = begun(&rt, rt.alloc(), 4);
     be_refused(&rt, &mut attempt);
     let stopped = Next::Reply(Reply::Stopped(conflict()));
@@ -42,6 +43,9 @@ fn who_was_refused_is_told_the_same_of_each_cell(rt: HostRuntime) {
         Ask::Get(Addr(3)),
         Ask::Set(Addr(3), 31),
         Ask::Set(Addr(4), 40),
+        Ask::Enter,
+        Ask::Hook(HookPhase::Commit, 6),
+        Ask::Later(5),
     ] {
         ask(&rt, &mut attempt, asked);
         assert_eq!(rt; attempt.next(), stopped);
@@ -90,6 +94,28 @@ fn levels_are_closed_after_a_refusal_and_nothing_is_undone(rt: HostRuntime) {
             (close(), 13),
             (run(HookPhase::Rollback, 9), 0),
         ],
+    );
+    ended(
+        &rt,
+        &attempt,
+        Ending::Rolled {
+            cause: conflict(),
+            prefix: 4,
+        },
+    );
+}
+
+#[test]
+fn a_before_commit_body_that_was_refused_ends_with_that_cause(rt: HostRuntime) {
+    let mut attempt = begun(&rt, rt.alloc(), 4);
+    do_at_once(&rt, &mut attempt, &[Ask::Later(5)]);
+    ask(&rt, &mut attempt, Ask::Finish);
+    be_refused(&rt, &mut attempt);
+    end_late(&rt, &mut attempt);
+    go(
+        &rt,
+        &mut attempt,
+        &[(give_back(3), 7 * OWNER), (close(), 13)],
     );
     ended(
         &rt,
