@@ -233,7 +233,7 @@ fn mark(cell: u32) -> Next {
 }
 
 // The owner's bits and the changing bit of a cell are cleared.
-fn give_back(cell: u32) -> Next {
+fn release(cell: u32) -> Next {
     Next::Access(Access::ClearBits(Word::Meta(Addr(cell)), OWNER_AND_CHANGING))
 }
 

@@ -95,7 +95,7 @@ impl CellIndex {
         self.heads[chain] = self.entries.len();
     }
 
-    /// Keeps this many addresses from the front. It neither takes nor gives back memory.
+    /// Keeps this many addresses from the front. It neither takes nor frees memory.
     pub fn truncate(&mut self, count: usize)
         ensures addresses { self.new.addresses ≡ take count self.old.addresses }
         ensures room { self.new.room ≡ self.old.room }

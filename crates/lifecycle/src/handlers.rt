@@ -1,4 +1,4 @@
-//! Lists of registrations, which can go back to what they were.
+//! Lists of registrations, which can be undone to a mark.
 ghost use Rattle.std.specs.Prelude.{◌≡◌, ◌≢◌, ◌+◌, ◌<◌, ◌≤◌, ◌^◌, [], ◌∷◌, ◌++◌, length, take, drop, slice_get, IsOk, IsSome, MatchOption, OnErr, OnOk};
 ghost use Rattle.lifecycle.specs.Registered.{SameHooks, SameLaters};
 ghost use Rattle.lifecycle.specs.StageRuns.{runs_left, stage_runs};
@@ -84,7 +84,7 @@ impl Handlers {
         Ok(())
     }
 
-    /// A mark to go back to: how many handlers are registered.
+    /// A mark to undo to: how many handlers are registered.
     pub fn mark(&self) -> usize
         ensures count { result ≡ length self.now.hooks }
         ensures fits { result < 2 ^ 63 }
@@ -100,7 +100,7 @@ impl Handlers {
         self.laters.len()
     }
 
-    /// Gives back the handlers that were registered at a mark. What is dropped becomes spare.
+    /// Keeps the handlers that were registered at a mark. What is dropped becomes spare.
     pub fn undo_to(&mut self, mark: usize)
         requires { mark ≤ length self.old.hooks }
         ensures hooks { self.new.hooks ≡ take mark self.old.hooks }
@@ -110,7 +110,7 @@ impl Handlers {
         self.hooks.truncate(mark);
     }
 
-    /// Gives back the before-commit bodies that were registered at a mark of theirs.
+    /// Keeps the before-commit bodies that were registered at a mark of theirs.
     pub fn undo_laters_to(&mut self, mark: usize)
         requires { mark ≤ length self.old.laters }
         ensures laters { self.new.laters ≡ take mark self.old.laters }

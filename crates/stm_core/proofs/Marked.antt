@@ -14,8 +14,8 @@ use Rattle.stm_model.specs.declared.marks.Level.{Level}
 use Rattle.stm_model.specs.declared.marks.WriteMark.{WriteMark}
 use Rattle.op_commit.specs.Back.{former_writes}
 use Rattle.stm_model.specs.Heap.{writes_to}
-use Rattle.write_buffer.proofs.GivenBack.{length_given_back}
-use Rattle.write_buffer.proofs.Indexed.{keys_given_back}
+use Rattle.write_buffer.proofs.Restored.{length_restored}
+use Rattle.write_buffer.proofs.Indexed.{keys_restored}
 use Rattle.write_buffer.specs.Buffer.{Buffer, IsMark, IsNoLater, Keeps, at_mark}
 
 -- ---- as many levels as books
@@ -227,7 +227,7 @@ first_and_others (other ∷ levels) level is = let same : other ≡ level = cc i
 -- At a mark the cells are those that were written before it.
 written_at : (writes : Buffer) (mark : WriteMark) (cell : ℕ) → writes_to (take mark.entries writes.writes) cell ≡ writes_to (at_mark writes mark) cell
 unfolding at_mark
-written_at writes mark cell = sym (ap (λ (cells : List ℕ). list_any (nat_eq cell) cells) (keys_given_back (take mark.entries writes.writes) (drop mark.restores writes.replaced)))
+written_at writes mark cell = sym (ap (λ (cells : List ℕ). list_any (nat_eq cell) cells) (keys_restored (take mark.entries writes.writes) (drop mark.restores writes.replaced)))
 
 pub former_innermost : (writes : Buffer) (registered : Registered) (level : Level) (levels : List Level) (books : List Book) → IsInnermost writes registered level levels books
     → (cell : ℕ) → writes_to (take level.writes.entries writes.writes) cell ≡ writes_to (former_writes books) cell
@@ -254,7 +254,7 @@ marked_around writes registered (level ∷ levels) (book ∷ books) marked = mar
 
 pub length_at_mark : (writes : Buffer) (mark : WriteMark) → IsMark writes mark → length (at_mark writes mark) ≡ mark.entries
 unfolding at_mark
-length_at_mark writes mark is = length_given_back (take mark.entries writes.writes) (drop mark.restores writes.replaced) ∙ length-take-le mark.entries writes.writes is.entries
+length_at_mark writes mark is = length_restored (take mark.entries writes.writes) (drop mark.restores writes.replaced) ∙ length-take-le mark.entries writes.writes is.entries
 
 pub entries_of_book : (writes : Buffer) (registered : Registered) (level : Level) (book : Book) → IsMarked writes registered level book → length book.writes ≡ level.writes.entries
 entries_of_book writes registered level book marked = sym (ap length marked.writes_then) ∙ length_at_mark writes level.writes marked.mark

@@ -167,7 +167,7 @@ impl Running {
         }
     }
 
-    // The latest mark that an undo may go back to: the innermost level's, or that of the begin.
+    // The latest mark to which there may be an undo: the innermost level's, or that of the begin.
     fn latest_mark(&self) -> WriteMark
         requires { AreMarked self.now.footprint.writes self.now.handlers self.now.levels (books_in self.now.past) }
         ensures mark { IsMark self.now.footprint.writes result }

@@ -1,4 +1,4 @@
-//! Levels to the deepest, and what each gives back.
+//! Levels to the deepest, and what each hands back.
 use crate::{DEEPEST, Level, Levels, TooDeep, WriteMark};
 use std::process::Abort;
 

@@ -50,7 +50,7 @@ pub record IsCutOff (asks came : List Ask) : Type 0 where
   pub whole : asks ≡ front ++ close ∷ behind
   pub last : came ≡ front ++ Finish ∷ []
 
--- Of a body's asks, and to finish behind them, the first ones came, in order, perhaps all. Or it is cut off and rolled back: it was refused something, and the next ask would close a level where none is open.
+-- Of a body's asks, and to finish behind them, the first ones came, in order, perhaps all. Or it is cut off and rolled back.
 abbrev pub AreAsked : (asks came : List Ask) → Option Ending → Type 0
 AreAsked asks came ending = ((behind : List Ask) × (asks ++ Finish ∷ [] ≡ came ++ behind)) ⊎ (IsCutOff asks came × IsTrue (is_rolled ending))
 

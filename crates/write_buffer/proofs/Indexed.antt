@@ -9,7 +9,7 @@ use Rattle.cell_index.proofs.Room.{keys_push, keys_take}
 use Rattle.stm_model.specs.Heap.{writes_to}
 use Rattle.stm_model.proofs.HeapLemmas.{IsDistinct-put}
 use Rattle.write_buffer.specs.Indexed.{IsIndexed}
-use Rattle.write_buffer.specs.Buffer.{AreApart, given_back, with_value}
+use Rattle.write_buffer.specs.Buffer.{AreApart, restored, with_value}
 use Rattle.write_buffer.proofs.Places.{put_new}
 
 -- Another value of a write changes no cell.
@@ -18,10 +18,10 @@ keys_with_value [] index value = refl
 keys_with_value (write ∷ writes) zero value = refl
 keys_with_value (write ∷ writes) (suc index) value = ap (λ (keys : List ℕ). write.0 ∷ keys) (keys_with_value writes index value)
 
-pub keys_given_back : (writes replaced : List (ℕ × ℕ)) → keys_of (given_back writes replaced) ≡ keys_of writes
-unfolding given_back
-keys_given_back writes [] = refl
-keys_given_back writes (former ∷ replaced) = keys_with_value (given_back writes replaced) former.0 former.1 ∙ keys_given_back writes replaced
+pub keys_restored : (writes replaced : List (ℕ × ℕ)) → keys_of (restored writes replaced) ≡ keys_of writes
+unfolding restored
+keys_restored writes [] = refl
+keys_restored writes (former ∷ replaced) = keys_with_value (restored writes replaced) former.0 former.1 ∙ keys_restored writes replaced
 
 AreApart_with_value : (writes : List (ℕ × ℕ)) (index value : ℕ) → AreApart writes → AreApart (with_value writes index value)
 AreApart_with_value writes index value apart = rw (keys_with_value writes index value) apart

@@ -1,5 +1,5 @@
-pub mod GivenBack
 pub mod Indexed
 pub mod Marks
 pub mod Places
+pub mod Restored
 pub mod Undoing

@@ -2,8 +2,8 @@
 use Rattle.std.proofs.Common.{◌≡◌, ℕ, ◌≤◌, List, [], ◌∷◌, ◌++◌, length, get_or, take, drop, refl, sym, ap, ◌∙◌, arith, length-append}
 use Rattle.std.proofs.lemmas.List.{drop-append-le, drop_all, length-take, length-take-le, take-append-le, take_all}
 use Rattle.stm_model.specs.declared.marks.WriteMark.{WriteMark}
-use Rattle.write_buffer.specs.Buffer.{Buffer, IsMark, IsNoLater, Keeps, at_mark, given_back, with_value}
-use Rattle.write_buffer.proofs.GivenBack.{drop_front, given_back_append, given_back_newest, given_back_none, length_given_back, take_given_back, take_shorter, take_with_value, length_with_value, with_value_former, with_value_past}
+use Rattle.write_buffer.specs.Buffer.{Buffer, IsMark, IsNoLater, Keeps, at_mark, restored, with_value}
+use Rattle.write_buffer.proofs.Restored.{drop_front, restored_append, restored_newest, restored_none, length_restored, take_restored, take_shorter, take_with_value, length_with_value, with_value_former, with_value_past}
 
 -- nothing that a mark looks at has changed
 pub Keeps_same : (before after : Buffer) → after.writes ≡ before.writes → after.replaced ≡ before.replaced → (mark : WriteMark) → IsMark before mark → Keeps before after mark
@@ -40,8 +40,8 @@ Keeps_again before after place value former here writes replaced mark is =
       };
       same =
           rw (writes, replaced, drop-append-le mark.restores before.replaced ((place, former) ∷ []) is.restores)
-          (given_back_newest (take mark.entries (with_value before.writes place value)) (drop mark.restores before.replaced) place former
-          ∙ ap (λ (kept : List (ℕ × ℕ)). given_back kept (drop mark.restores before.replaced))
+          (restored_newest (take mark.entries (with_value before.writes place value)) (drop mark.restores before.replaced) place former
+          ∙ ap (λ (kept : List (ℕ × ℕ)). restored kept (drop mark.restores before.replaced))
           (sym (take_with_value mark.entries (with_value before.writes place value) place former)
           ∙ ap (take mark.entries) (with_value_former before.writes place value former here)));
     }
@@ -59,7 +59,7 @@ Keeps_later before after place value writes replaced mark is later =
       };
       same =
           rw (writes, replaced)
-          (ap (λ (kept : List (ℕ × ℕ)). given_back kept (drop mark.restores before.replaced))
+          (ap (λ (kept : List (ℕ × ℕ)). restored kept (drop mark.restores before.replaced))
           (take_with_value mark.entries before.writes place value ∙ with_value_past (take mark.entries before.writes) place value few));
     }
 
@@ -67,7 +67,7 @@ Keeps_later before after place value writes replaced mark is later =
 pub IsMark_earlier : (buffer : Buffer) (since mark : WriteMark) → IsMark buffer since → IsNoLater mark since → IsMark buffer mark
 IsMark_earlier buffer since mark is earlier = record { entries = omega (arith, is.entries, earlier.entries); restores = omega (arith, is.restores, earlier.restores) }
 
--- an undo, for marks taken no later than the one that it goes back to
+-- an undo, for marks taken no later than the one that it undoes to
 pub Keeps_undone : (before after : Buffer) (mark : WriteMark) → IsMark before mark → after.writes ≡ at_mark before mark → after.replaced ≡ take mark.restores before.replaced
     → (older : WriteMark) → IsNoLater older mark → Keeps before after older
 unfolding at_mark
@@ -78,16 +78,16 @@ Keeps_undone before after mark is writes replaced older earlier =
     let restores : length (take mark.restores before.replaced) ≡ mark.restores = length-take-le mark.restores before.replaced is.restores in
     record {
       still = record {
-        entries = rw writes (omega (arith, length_given_back kept newer, entries, earlier.entries));
+        entries = rw writes (omega (arith, length_restored kept newer, entries, earlier.entries));
         restores = rw replaced (omega (arith, restores, earlier.restores));
       };
       same =
           rw (writes, replaced)
-          (ap (λ (list : List (ℕ × ℕ)). given_back list (drop older.restores (take mark.restores before.replaced)))
-          (take_given_back older.entries kept newer
-          ∙ ap (λ (list : List (ℕ × ℕ)). given_back list newer) (take_shorter older.entries mark.entries before.writes earlier.entries))
-          ∙ sym (given_back_append (take older.entries before.writes) (drop older.restores (take mark.restores before.replaced)) newer)
-          ∙ ap (given_back (take older.entries before.writes)) (drop_front older.restores mark.restores before.replaced earlier.restores));
+          (ap (λ (list : List (ℕ × ℕ)). restored list (drop older.restores (take mark.restores before.replaced)))
+          (take_restored older.entries kept newer
+          ∙ ap (λ (list : List (ℕ × ℕ)). restored list newer) (take_shorter older.entries mark.entries before.writes earlier.entries))
+          ∙ sym (restored_append (take older.entries before.writes) (drop older.restores (take mark.restores before.replaced)) newer)
+          ∙ ap (restored (take older.entries before.writes)) (drop_front older.restores mark.restores before.replaced earlier.restores));
     }
 
 -- ---- a mark of the present
@@ -96,4 +96,4 @@ pub at_mark_now : (buffer : Buffer) (mark : WriteMark) → mark.entries ≡ leng
 unfolding at_mark
 at_mark_now buffer mark entries restores =
     rw (entries, restores, take_all (length buffer.writes) buffer.writes (omega arith))
-    (given_back_none buffer.writes (drop (length buffer.replaced) buffer.replaced) (drop_all (length buffer.replaced) buffer.replaced (omega arith)))
+    (restored_none buffer.writes (drop (length buffer.replaced) buffer.replaced) (drop_all (length buffer.replaced) buffer.replaced (omega arith)))

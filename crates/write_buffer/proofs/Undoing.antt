@@ -3,12 +3,12 @@ use Rattle.std.proofs.Common.{◌≡◌, ℕ, ◌<◌, ◌≤◌, List, [], ◌�
 use Rattle.std.specs.Prelude.{slice_index_or}
 use Rattle.std.proofs.lemmas.List.{drop-append-le, drop_all, length-take-le, take-append-le, take_all}
 use Rattle.stm_model.specs.declared.marks.WriteMark.{WriteMark}
-use Rattle.write_buffer.specs.Buffer.{Buffer, IsMark, at_mark, given_back, with_value}
-use Rattle.write_buffer.proofs.GivenBack.{given_back_newest, given_back_none}
+use Rattle.write_buffer.specs.Buffer.{Buffer, IsMark, at_mark, restored, with_value}
+use Rattle.write_buffer.proofs.Restored.{restored_newest, restored_none}
 
--- These writes lead back to the mark, when the values that were replaced since and aren't given back yet are.
+-- These writes lead back to the mark, when the values that were replaced since and aren't restored yet are.
 pub record IsUndoing (buffer : Buffer) (mark : WriteMark) (writes replaced : List (ℕ × ℕ)) : Type 0 where
-  pub going_back : given_back writes (drop mark.restores replaced) ≡ at_mark buffer mark
+  pub leads_back : restored writes (drop mark.restores replaced) ≡ at_mark buffer mark
   pub older : take mark.restores replaced ≡ take mark.restores buffer.replaced
   pub left : mark.restores ≤ length replaced
   pub entries : length writes ≤ length buffer.writes
@@ -20,7 +20,7 @@ unfolding at_mark
 undoing_begins buffer mark writes replaced is kept same =
     let entries : length (take mark.entries buffer.writes) ≡ mark.entries = length-take-le mark.entries buffer.writes is.entries in
     record {
-      going_back = rw (kept, same) refl;
+      leads_back = rw (kept, same) refl;
       older = rw same refl;
       left = rw same is.restores;
       entries = rw kept (omega (arith, entries, is.entries));
@@ -34,10 +34,10 @@ undoing_goes_on buffer mark writes replaced after rest index former more popped 
     let count : length replaced ≡ length rest + 1 = rw popped (length-append rest ((index, former) ∷ [])) in
     let within : mark.restores ≤ length rest = omega arith in
     record {
-      going_back =
-          rw given (sym (given_back_newest writes (drop mark.restores rest) index former)
-          ∙ ap (given_back writes) (sym (drop-append-le mark.restores rest ((index, former) ∷ []) within) ∙ sym (ap (drop mark.restores) popped))
-          ∙ undoing.going_back);
+      leads_back =
+          rw given (sym (restored_newest writes (drop mark.restores rest) index former)
+          ∙ ap (restored writes) (sym (drop-append-le mark.restores rest ((index, former) ∷ []) within) ∙ sym (ap (drop mark.restores) popped))
+          ∙ undoing.leads_back);
       older = sym (take-append-le mark.restores rest ((index, former) ∷ []) within) ∙ sym (ap (take mark.restores) popped) ∙ undoing.older;
       left = within;
       entries = rw given (omega (arith, length-set writes index ((slice_index_or writes index (0, 0)).0, former), undoing.entries));
@@ -47,6 +47,6 @@ undoing_goes_on buffer mark writes replaced after rest index former more popped 
 pub undoing_ends : (buffer : Buffer) (mark : WriteMark) (writes replaced : List (ℕ × ℕ)) → length replaced ≤ mark.restores → IsUndoing buffer mark writes replaced
     → (writes ≡ at_mark buffer mark) × (replaced ≡ take mark.restores buffer.replaced)
 undoing_ends buffer mark writes replaced all undoing = (
-  sym (given_back_none writes (drop mark.restores replaced) (drop_all mark.restores replaced all)) ∙ undoing.going_back,
+  sym (restored_none writes (drop mark.restores replaced) (drop_all mark.restores replaced all)) ∙ undoing.leads_back,
   sym (take_all mark.restores replaced all) ∙ undoing.older,
 )

@@ -19,10 +19,10 @@ AreApart writes = IsDistinct nat_eq (keys_of writes)
 abbrev pub with_value : List (ℕ × ℕ) → ℕ → ℕ → List (ℕ × ℕ)
 with_value writes index value = slice_set writes index ((slice_index_or writes index (0, 0)).0, value)
 
--- the writes when replaced values were given back, the newest first
-unfoldable pub given_back : List (ℕ × ℕ) → List (ℕ × ℕ) → List (ℕ × ℕ)
-given_back writes [] = writes
-given_back writes (former ∷ replaced) = with_value (given_back writes replaced) former.0 former.1
+-- the writes when replaced values were restored, the newest first
+unfoldable pub restored : List (ℕ × ℕ) → List (ℕ × ℕ) → List (ℕ × ℕ)
+restored writes [] = writes
+restored writes (former ∷ replaced) = with_value (restored writes replaced) former.0 former.1
 
 -- The buffer can be rolled back to the mark: it has at least as many writes and replaced values as the mark counts.
 pub record IsMark (buffer : Buffer) (mark : WriteMark) : Type 0 where
@@ -31,7 +31,7 @@ pub record IsMark (buffer : Buffer) (mark : WriteMark) : Type 0 where
 
 -- what the buffer is rolled back to at a mark: the writes that were there then, with the values that they had then
 unfoldable pub at_mark : Buffer → WriteMark → List (ℕ × ℕ)
-at_mark buffer mark = given_back (take mark.entries buffer.writes) (drop mark.restores buffer.replaced)
+at_mark buffer mark = restored (take mark.entries buffer.writes) (drop mark.restores buffer.replaced)
 
 -- The one mark was taken no later than the other.
 pub record IsNoLater (mark other : WriteMark) : Type 0 where

@@ -91,7 +91,7 @@ impl WriteBuffer {
         }
     }
 
-    /// Writes a cell that is written already, for a caller who goes back to no mark that was taken after this
+    /// Writes a cell that is written already, for a caller who undoes to no mark that was taken after this
     /// one. A cell that was first written after it keeps no former value, and takes no memory.
     pub fn rewrite(&mut self, addr: Addr, value: u64, since: WriteMark) -> Result<(), Memory>
         requires written { IsTrue (writes_to self.old.writes addr.0) }

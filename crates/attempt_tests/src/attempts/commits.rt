@@ -2,8 +2,8 @@
 ghost use Rattle.std.specs.Prelude.{◌≡◌};
 
 use super::{
-    CHANGING, CLOCK, OWNER, PENDING, ask, begun, close, ended, give_back, go, look, mark, prepare,
-    read, store, write,
+    CHANGING, CLOCK, OWNER, PENDING, ask, begun, close, ended, go, look, mark, prepare, read,
+    release, store, write,
 };
 use meta_word::Phase;
 use std::alloc::Global;
@@ -31,10 +31,10 @@ fn a_writer_commits_and_rings_for_who_waits(rt: HostRuntime) {
         &mut attempt,
         &[(CLOCK, 5), (look(2), 1), (Next::Decide { old: 5 }, 5)],
     );
-    let release = Next::Access(Access::Swap(Word::Meta(Addr(3)), 6));
+    let publish = Next::Access(Access::Swap(Word::Meta(Addr(3)), 6));
     let steps = [
         (store(Word::Value(Addr(3)), 30), 0),
-        (release, CHANGING + PENDING + 7 * OWNER),
+        (publish, CHANGING + PENDING + 7 * OWNER),
         (Next::Ring(Addr(3)), 0),
         (close(), 14),
     ];
@@ -48,7 +48,7 @@ fn who_was_doomed_finds_it_as_it_prepares(rt: HostRuntime) {
     go(
         &rt,
         &mut attempt,
-        &[(prepare(), 15), (give_back(3), 7 * OWNER), (close(), 15)],
+        &[(prepare(), 15), (release(3), 7 * OWNER), (close(), 15)],
     );
     let status = TxnStatus {
         serial: 3,
@@ -74,7 +74,7 @@ fn a_clock_at_its_limit_ends_it_at_that_prefix(rt: HostRuntime) {
         &[
             (CLOCK, 9),
             (look(2), 1),
-            (give_back(3), CHANGING + 7 * OWNER),
+            (release(3), CHANGING + 7 * OWNER),
             (close(), 14),
         ],
     );

@@ -3,8 +3,8 @@
 ghost use Rattle.std.specs.Prelude.{◌≡◌};
 
 use super::{
-    CLOCK, OWNER, PENDING, ask, begin, begun, close, ended, give_back, go, load, look, read,
-    settle, store, write,
+    CLOCK, OWNER, PENDING, ask, begin, begun, close, ended, go, load, look, read, release, settle,
+    store, write,
 };
 use std::process::Abort;
 use std::test::Fail;
@@ -50,8 +50,8 @@ fn who_is_to_be_run_again_gives_its_cells_back(rt: HostRuntime) {
     write(&rt, &mut attempt, 3, 0, 30);
     ask(&rt, &mut attempt, Ask::Abandon(Cause::Retry));
     let steps = [
-        (give_back(2), 7 * OWNER + 1),
-        (give_back(3), PENDING + 7 * OWNER),
+        (release(2), 7 * OWNER + 1),
+        (release(3), PENDING + 7 * OWNER),
         (Next::Ring(Addr(3)), 0),
         (close(), 13),
     ];

@@ -2,8 +2,8 @@
 ghost use Rattle.std.specs.Prelude.{◌≡◌};
 
 use super::{
-    CHANGING, CLOCK, OWNER, ask, begin, begun, close, do_at_once, end_late, ended, give_back, go,
-    mark, prepare, read, run, settle, store, write,
+    CHANGING, CLOCK, OWNER, ask, begin, begun, close, do_at_once, end_late, ended, go, mark,
+    prepare, read, release, run, settle, store, write,
 };
 use std::alloc::Global;
 use std::process::Abort;
@@ -71,11 +71,11 @@ fn a_commit_runs_its_handlers_before_and_after_the_decision_and_at_its_end(rt: H
         (Next::Decide { old: 4 }, 4),
     ];
     go(&rt, &mut attempt, &before);
-    let release = Next::Access(Access::Swap(Word::Meta(Addr(3)), 5));
+    let publish = Next::Access(Access::Swap(Word::Meta(Addr(3)), 5));
     let after = [
         (run(HookPhase::Committing, 2), 0),
         (store(Word::Value(Addr(3)), 30), 0),
-        (release, CHANGING + 7 * OWNER),
+        (publish, CHANGING + 7 * OWNER),
     ];
     go(&rt, &mut attempt, &after);
     close_and_run(&rt, &mut attempt, 14);
@@ -135,10 +135,6 @@ fn a_before_commit_body_takes_every_ask(rt: HostRuntime) {
     assert_eq!(rt; attempt.next(), Next::Before { token: 8 });
     let cause = Cause::User { code: 2 };
     ask(&rt, &mut attempt, Ask::Abandon(cause));
-    go(
-        &rt,
-        &mut attempt,
-        &[(give_back(3), 7 * OWNER), (close(), 13)],
-    );
+    go(&rt, &mut attempt, &[(release(3), 7 * OWNER), (close(), 13)]);
     ended(&rt, &attempt, Ending::Rolled { cause, prefix: 4 });
 }

@@ -1,6 +1,6 @@
 //! Nested levels of an attempt.
 
-use super::{OWNER, ask, begun, do_at_once, give_back, go, read, run, write};
+use super::{OWNER, ask, begun, do_at_once, go, read, release, run, write};
 use std::process::Abort;
 use stm_core::{Ask, Next, Reply};
 use stm_model::{Addr, Cause, HookPhase};
@@ -23,7 +23,7 @@ fn an_undo_releases_what_was_first_written_and_runs_what_was_registered(rt: Host
     write(&rt, &mut attempt, 1, 0, 7);
     do_at_once(&rt, &mut attempt, &[Ask::Hook(HookPhase::Rollback, 9)]);
     ask(&rt, &mut attempt, Ask::Undo);
-    let steps = [(give_back(1), 7 * OWNER), (run(HookPhase::Rollback, 9), 0)];
+    let steps = [(release(1), 7 * OWNER), (run(HookPhase::Rollback, 9), 0)];
     go(&rt, &mut attempt, &steps);
     assert_eq!(rt; attempt.next(), Next::Reply(Reply::Ready));
     ask(&rt, &mut attempt, Ask::Get(Addr(0)));

@@ -2,8 +2,7 @@
 ghost use Rattle.std.specs.Prelude.{◌≡◌};
 
 use super::{
-    CHANGING, OWNER, ask, begun, close, do_at_once, end_late, ended, give_back, go, look, run,
-    write,
+    CHANGING, OWNER, ask, begun, close, do_at_once, end_late, ended, go, look, release, run, write,
 };
 use std::process::Abort;
 use stm_core::{Ask, Attempt, Ending, Next, Reply};
@@ -58,11 +57,7 @@ fn who_was_refused_ends_with_that_cause(rt: HostRuntime) {
         let mut attempt = begun(&rt, rt.alloc(), 4);
         be_refused(&rt, &mut attempt);
         ask(&rt, &mut attempt, end);
-        go(
-            &rt,
-            &mut attempt,
-            &[(give_back(3), 7 * OWNER), (close(), 13)],
-        );
+        go(&rt, &mut attempt, &[(release(3), 7 * OWNER), (close(), 13)]);
         ended(
             &rt,
             &attempt,
@@ -90,7 +85,7 @@ fn levels_are_closed_after_a_refusal_and_nothing_is_undone(rt: HostRuntime) {
         &rt,
         &mut attempt,
         &[
-            (give_back(3), 7 * OWNER),
+            (release(3), 7 * OWNER),
             (close(), 13),
             (run(HookPhase::Rollback, 9), 0),
         ],
@@ -112,11 +107,7 @@ fn a_before_commit_body_that_was_refused_ends_with_that_cause(rt: HostRuntime) {
     ask(&rt, &mut attempt, Ask::Finish);
     be_refused(&rt, &mut attempt);
     end_late(&rt, &mut attempt);
-    go(
-        &rt,
-        &mut attempt,
-        &[(give_back(3), 7 * OWNER), (close(), 13)],
-    );
+    go(&rt, &mut attempt, &[(release(3), 7 * OWNER), (close(), 13)]);
     ended(
         &rt,
         &attempt,

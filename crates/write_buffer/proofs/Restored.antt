@@ -1,7 +1,7 @@
--- Values given back, and the writes that a mark leaves of them.
+-- Values restored, and the writes that a mark leaves of them.
 use Rattle.std.proofs.Common.{◌≡◌, ℕ, zero, suc, ◌≤◌, List, [], ◌∷◌, ◌++◌, length, get_or, take, drop, refl, ap, ◌∙◌, arith, length-set}
 use Rattle.std.proofs.lemmas.List.{set_past, take-append-drop}
-use Rattle.write_buffer.specs.Buffer.{given_back, with_value}
+use Rattle.write_buffer.specs.Buffer.{restored, with_value}
 
 pub with_value_past : (writes : List (ℕ × ℕ)) (index value : ℕ) → length writes ≤ index → with_value writes index value ≡ writes
 with_value_past writes index value past = set_past writes index _ past
@@ -22,34 +22,34 @@ with_value_former (write ∷ writes) zero value former is = rw is refl
 with_value_former (write ∷ writes) (suc index) value former is =
     ap (λ (rest : List (ℕ × ℕ)). write ∷ rest) (with_value_former writes index value former is)
 
-pub take_given_back : (n : ℕ) (writes replaced : List (ℕ × ℕ)) → take n (given_back writes replaced) ≡ given_back (take n writes) replaced
-unfolding given_back
-take_given_back n writes [] = refl
-take_given_back n writes (former ∷ replaced) =
-    take_with_value n (given_back writes replaced) former.0 former.1
-    ∙ ap (λ (rest : List (ℕ × ℕ)). with_value rest former.0 former.1) (take_given_back n writes replaced)
+pub take_restored : (n : ℕ) (writes replaced : List (ℕ × ℕ)) → take n (restored writes replaced) ≡ restored (take n writes) replaced
+unfolding restored
+take_restored n writes [] = refl
+take_restored n writes (former ∷ replaced) =
+    take_with_value n (restored writes replaced) former.0 former.1
+    ∙ ap (λ (rest : List (ℕ × ℕ)). with_value rest former.0 former.1) (take_restored n writes replaced)
 
-pub given_back_append : (writes older newer : List (ℕ × ℕ)) → given_back writes (older ++ newer) ≡ given_back (given_back writes newer) older
-unfolding given_back
-given_back_append writes [] newer = refl
-given_back_append writes (former ∷ older) newer =
-    ap (λ (rest : List (ℕ × ℕ)). with_value rest former.0 former.1) (given_back_append writes older newer)
+pub restored_append : (writes older newer : List (ℕ × ℕ)) → restored writes (older ++ newer) ≡ restored (restored writes newer) older
+unfolding restored
+restored_append writes [] newer = refl
+restored_append writes (former ∷ older) newer =
+    ap (λ (rest : List (ℕ × ℕ)). with_value rest former.0 former.1) (restored_append writes older newer)
 
 -- the newest value first
-pub given_back_newest : (writes older : List (ℕ × ℕ)) (index former : ℕ) → given_back writes (older ++ (index, former) ∷ []) ≡ given_back (with_value writes index former) older
-unfolding given_back
-given_back_newest writes older index former = given_back_append writes older ((index, former) ∷ [])
+pub restored_newest : (writes older : List (ℕ × ℕ)) (index former : ℕ) → restored writes (older ++ (index, former) ∷ []) ≡ restored (with_value writes index former) older
+unfolding restored
+restored_newest writes older index former = restored_append writes older ((index, former) ∷ [])
 
-pub given_back_none : (writes replaced : List (ℕ × ℕ)) → replaced ≡ [] → given_back writes replaced ≡ writes
-unfolding given_back
-given_back_none writes replaced none = rw none refl
+pub restored_none : (writes replaced : List (ℕ × ℕ)) → replaced ≡ [] → restored writes replaced ≡ writes
+unfolding restored
+restored_none writes replaced none = rw none refl
 
 -- ---- parts of lists
 
-pub length_given_back : (writes replaced : List (ℕ × ℕ)) → length (given_back writes replaced) ≡ length writes
-unfolding given_back
-length_given_back writes [] = refl
-length_given_back writes (former ∷ replaced) = length-set (given_back writes replaced) former.0 _ ∙ length_given_back writes replaced
+pub length_restored : (writes replaced : List (ℕ × ℕ)) → length (restored writes replaced) ≡ length writes
+unfolding restored
+length_restored writes [] = refl
+length_restored writes (former ∷ replaced) = length-set (restored writes replaced) former.0 _ ∙ length_restored writes replaced
 
 pub take_shorter : (fewer n : ℕ) (list : List (ℕ × ℕ)) → fewer ≤ n → take fewer (take n list) ≡ take fewer list
 take_shorter zero n list within = refl
