@@ -1,5 +1,5 @@
 -- Moments of a run whose numbers are words, and what each single change makes of them.
-use Rattle.std.proofs.Common.{◌<◌, ◌^◌, ℕ, zero, suc, Bool, true, false, cond, IsTrue, ◌&&◌, List, [], ◌∷◌, length, drop, filter, reverse, nat_lt, nat_eq, slice_set, refl, sym, subst, arith}
+use Rattle.std.proofs.Common.{◌<◌, ◌≤◌, ◌^◌, ℕ, zero, suc, Bool, true, false, cond, IsTrue, ◌&&◌, List, [], ◌∷◌, length, drop, filter, reverse, nat_le, nat_lt, nat_eq, slice_set, refl, sym, subst, arith}
 use Rattle.std.specs.Prelude.{Some, unwrap_or}
 use Rattle.std.proofs.lemmas.Grind.{reverse_onto}
 use Rattle.std.specs.List.{AllByRecursion}
@@ -14,6 +14,7 @@ use Rattle.ledger_model.specs.declared.script.Operand.{Operand}
 use Rattle.ledger_model.specs.declared.script.Operand.TheVariants.{Reg, Number}
 use Rattle.ledger_model.specs.declared.script.Statement.{Statement}
 use Rattle.ledger_model.specs.Fits.{Places, block_fits, is_code, nests, operand_fits}
+use Rattle.ledger_model.specs.Limits.{most_code}
 use Rattle.ledger_model.specs.Maps.{delete_pair, put_pair, value_at}
 use Rattle.ledger_model.specs.Run.{State, undone, value_of, ref_at, map_at, slot_at, set_register, set_ref, set_map, set_slot, printed, registered, registered_late, allowed}
 use Rattle.ledger_model.specs.Words.{ArePairsOfWords, HaveWords, HoldsWords, IsWord, RunsOnWords}
@@ -76,8 +77,11 @@ both false b h = cc
 pub below : (n limit : ℕ) → IsTrue (nat_lt n limit) → n < limit
 below n limit h = grind (arith, nat_tests)
 
+at_most : (n limit : ℕ) → IsTrue (nat_le n limit) → n ≤ limit
+at_most n limit h = grind (arith, nat_tests)
+
 pub code_word : (code : ℕ) → IsTrue (is_code code) → IsWord code
-code_word code h = let less = below code (2 ^ 16) (both (nat_lt 0 code) (nat_lt code (2 ^ 16)) h).1 in omega (arith, less)
+code_word code h = let no_more = at_most code most_code (both (nat_le 1 code) (nat_le code most_code) h).1 in omega (arith, no_more)
 
 -- what fits one level deeper fits some level
 pub nests_inside : (left : ℕ) (inside : ℕ → Bool) → IsTrue (nests left inside) → (less : ℕ) × IsTrue (inside less)

@@ -1,5 +1,5 @@
 -- What a job's references, maps and slots hold at the start.
-use Rattle.std.specs.Prelude.{ℕ, replicate, List, [], ◌∷◌, slice_set}
+use Rattle.std.specs.Prelude.{ℕ, ◌*◌, max, replicate, List, [], ◌∷◌, length, slice_set}
 use Rattle.ledger_model.specs.declared.job.Contents.{Contents}
 use Rattle.ledger_model.specs.declared.job.Job.{Job}
 
@@ -16,3 +16,7 @@ opening_contents job = record {
   slots = replicate job.snaps [];
   used = 0;
 }
+
+-- How many blocks there are: a stripe of them for each worker, and one where there is no worker.
+abbrev pub blocks_of : Job → ℕ
+blocks_of job = job.blocks * max (length job.workers) 1

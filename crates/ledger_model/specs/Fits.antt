@@ -1,6 +1,7 @@
 -- Which jobs are within the limits.
 use Rattle.std.specs.Prelude.{ℕ, zero, suc, ◌+◌, ◌^◌, ◌<◌, ◌≤◌, Bool, true, false, ◌&&◌, nat_lt, nat_le, IsTrue, List, [], ◌∷◌, length, map}
 use Rattle.std.specs.List.{AllByRecursion}
+use Rattle.ledger_model.specs.Limits.{most_refs, most_maps, most_slots, most_blocks, most_workers, most_scripts, most_steps, most_depth, registers, most_code}
 use Rattle.ledger_model.specs.declared.job.Job.{Job}
 use Rattle.ledger_model.specs.declared.script.Script.{Script}
 use Rattle.ledger_model.specs.declared.script.Operand.{Operand}
@@ -10,14 +11,14 @@ use Rattle.ledger_model.specs.declared.script.Statement.TheOpen.{Statement-F, Co
 use Rattle.ledger_model.specs.declared.script.Statement.TheFolds.{fold-Statement}
 
 abbrev pub is_register : ℕ → Bool
-is_register r = nat_lt r 16
+is_register r = nat_lt r registers
 
 -- a number of 64 bits
 abbrev pub fits_word : ℕ → Bool
 fits_word n = nat_lt n (2 ^ 64)
 
 abbrev pub is_code : ℕ → Bool
-is_code code = nat_lt 0 code && nat_lt code (2 ^ 16)
+is_code code = nat_le 1 code && nat_le code most_code
 
 abbrev pub operand_fits : Operand → Bool
 operand_fits (Reg r) = is_register r
@@ -72,9 +73,9 @@ fits p = fold-Statement (ℕ → Bool) (fits_step p)
 abbrev pub block_fits : Places → ℕ → List Statement → Bool
 block_fits p left block = each_fits left (map (fits p) block)
 
--- blocks nest at most 32 deep
+-- Blocks nest no deeper than they may.
 abbrev pub ScriptFits : Places → Script → Type 0
-ScriptFits p script = IsTrue (block_fits p 32 script.block)
+ScriptFits p script = IsTrue (block_fits p most_depth script.block)
 
 -- references that are there, in ascending order from `next` on, with their values
 abbrev pub OpeningsAscend : ℕ → ℕ → List (ℕ × ℕ) → Type 0
@@ -83,20 +84,20 @@ OpeningsAscend refs next (opening ∷ openings) =
     (next ≤ opening.0) × (opening.0 < refs) × (opening.1 < 2 ^ 64) × OpeningsAscend refs (opening.0 + 1) openings
 
 abbrev pub WorkerFits : Places → List Script → Type 0
-WorkerFits p scripts = (length scripts ≤ 4096) × AllByRecursion (ScriptFits p) scripts
+WorkerFits p scripts = (length scripts ≤ most_scripts) × AllByRecursion (ScriptFits p) scripts
 
 abbrev pub places : Job → Places
 places job = record { refs = job.refs; maps = job.maps; snaps = job.snaps }
 
 -- the job is within the limits
 pub record JobFits (job : Job) : Type 0 where
-  pub refs : job.refs ≤ 65536
-  pub maps : job.maps ≤ 64
-  pub snaps : job.snaps ≤ 64
-  pub blocks : job.blocks ≤ 65536
+  pub refs : job.refs ≤ most_refs
+  pub maps : job.maps ≤ most_maps
+  pub snaps : job.snaps ≤ most_slots
+  pub blocks : job.blocks ≤ most_blocks
   pub openings : OpeningsAscend job.refs 0 job.openings
   pub opened : AllByRecursion (λ opening. 0 < opening.1) job.openings
-  pub workers : length job.workers ≤ 16
+  pub workers : length job.workers ≤ most_workers
   pub scripts : AllByRecursion (WorkerFits (places job)) job.workers
-  pub steps : length job.steps ≤ 262144
+  pub steps : length job.steps ≤ most_steps
   pub named : AllByRecursion (λ worker. (1 ≤ worker) × (worker ≤ length job.workers)) job.steps

@@ -1,10 +1,12 @@
 pub mod Contents
 pub mod Fits
 pub mod Growth
+pub mod Limits
 pub mod Maps
 pub mod Order
 pub mod Replays
 pub mod Report
+pub mod Reported
 pub mod Run
 pub mod Settle
 pub mod Straight

@@ -10,7 +10,7 @@ use Rattle.ledger_model.specs.declared.listing.RowResult.{RowResult}
 use Rattle.ledger_model.specs.declared.listing.RowResult.TheVariants.{Done}
 use Rattle.ledger_model.specs.declared.script.Script.{Script}
 use Rattle.ledger_model.specs.declared.script.Statement.{Statement}
-use Rattle.ledger_model.specs.Contents.{opening_contents}
+use Rattle.ledger_model.specs.Contents.{opening_contents, blocks_of}
 use Rattle.ledger_model.specs.Order.{stands_before}
 use Rattle.ledger_model.specs.Run.{Outcome, run, allowance}
 use Rattle.ledger_model.specs.Settle.{Settled, Commits, OnlyReads, settle, handler_runs}
@@ -110,3 +110,5 @@ pub record Replays (job : Job) (settings : Settings) (listing : Listing) : Type 
   pub blocked : listing.blocked ≡ []
   pub worn : listing.worn ≡ []
   pub contents : listing.contents ≡ contents_after job listing.rows (length (writers_of listing.rows))
+  -- no more blocks are ever in use than there are
+  pub used : (n : ℕ) → (contents_after job listing.rows n).used ≤ blocks_of job
