@@ -1,38 +1,49 @@
--- Which text is which job, in the form that is built: references, and scripts that go straight on.
-use Rattle.std.specs.Prelude.{◌≡◌, ℕ, Bool, false, not, nat_eq, if◌then◌else◌, List, [], ◌∷◌, ◌++◌, map, filter, flat_map}
-use Rattle.text_lines.specs.Lines.{Row, text_of}
+-- What the text of a job looks like.
+use Rattle.std.specs.Prelude.{◌≡◌, ℕ, Bool, false, not, ◌&&◌, ◌||◌, nat_eq, ◌≤◌, List, [], ◌∷◌, ◌++◌, length, map, flat_map, filter, codes, bytes_eq}
+use Rattle.std.specs.List.{AllByRecursion}
+use Rattle.text_lines.specs.Lines.{Row, lines, words}
 use Rattle.text_lines.specs.Numbers.{plain_word}
 use Rattle.ledger_model.specs.declared.job.Job.{Job}
-use Rattle.ledger_model.specs.Fits.{JobFits, OpeningsAscend}
-use Rattle.ledger_model.specs.Straight.{IsStraight}
-use Rattle.script_text.specs.Printing.{head_line, refs_line, opening_line, worker_lines}
+use Rattle.ledger_model.specs.Fits.{JobFits}
+use Rattle.ledger_model.specs.Limits.{most_steps_on_line}
+use Rattle.script_text.specs.JobText.{is_skipped}
+use Rattle.script_text.specs.Printing.{job_lines, steps_line}
 
-abbrev pub is_set : ℕ × ℕ → Bool
-is_set opening = not (nat_eq opening.1 0)
+-- no form that the reader refuses as unbuilt: there are no maps, no snapshot slots and no blocks
+pub record IsBuilt (job : Job) : Type 0 where
+  pub maps : job.maps ≡ 0
+  pub snaps : job.snaps ≡ 0
+  pub blocks : job.blocks ≡ 0
 
--- The text is the head and then lines which, with their numbers in canonical decimal, are the job's: a `refs` line or none, `ref` lines, and the lines of its workers. One space stands between words and a line feed behind each line.
+-- the word is the row's first one
+abbrev pub begins_with : List ℕ → Row → Bool
+begins_with word [] = false
+begins_with word (first ∷ args) = bytes_eq first word
+
+-- the row's last word is `0`
+abbrev pub ends_with_zero : Row → Bool
+ends_with_zero [] = false
+ends_with_zero (last ∷ []) = bytes_eq last (codes "0")
+ends_with_zero (word ∷ next ∷ more) = ends_with_zero (next ∷ more)
+
+-- a header of 0, as `refs 0`, or an opening of 0, as `ref 5 0`: it says what its absence says
+abbrev pub says_zero : Row → Bool
+says_zero row = ((begins_with (codes "refs") row && nat_eq (length row) 2) || (begins_with (codes "ref") row && nat_eq (length row) 3)) && ends_with_zero row
+
+-- the rows that count, with numbers in canonical decimal
+abbrev pub spelled : List Row → List Row
+spelled rows = filter (λ row. not (is_skipped row || says_zero row)) (map (map plain_word) rows)
+
+-- as many numbers as may stand on a line of steps, and at least one
+abbrev pub FitsOnLine : List ℕ → Type 0
+FitsOnLine group = (1 ≤ length group) × (length group ≤ most_steps_on_line)
+
+-- The text is that of a job within the limits. With numbers in canonical decimal, and without what says nothing, its lines are the job's canonical ones; only how many numbers stand on a line of steps is its own.
 pub record IsTextOf (text : List ℕ) (job : Job) : Type 0 where
-  -- the lines behind the head
-  pub lines : List Row
-  -- whether there is a `refs` line
-  pub header : Bool
-  -- what the `ref` lines say, values of 0 too
-  pub written : List (ℕ × ℕ)
-  pub text_is : text ≡ text_of (head_line ∷ lines)
-  pub lines_are : map (map plain_word) lines ≡ (if header then refs_line job.refs ∷ [] else []) ++ (map opening_line written ++ flat_map worker_lines job.workers)
-  pub no_header : header ≡ false → job.refs ≡ 0
-  pub ascending : OpeningsAscend job.refs 0 written
-  pub openings : job.openings ≡ filter is_set written
   pub fits : JobFits job
-  pub straight : IsStraight job
-
--- no job has this text
-abbrev pub HasNoJob : List ℕ → Type 0
-HasNoJob text = (job : Job) → IsTextOf text job → ⊥
-
--- the canonical text of a straight job, with a `refs` line where there are references
-abbrev pub straight_lines : Job → List Row
-straight_lines job = (if nat_eq job.refs 0 then [] else refs_line job.refs ∷ []) ++ (map opening_line job.openings ++ flat_map worker_lines job.workers)
-
-abbrev pub straight_text : Job → List ℕ
-straight_text job = text_of (head_line ∷ straight_lines job)
+  pub built : IsBuilt job
+  -- the numbers of each line of steps
+  pub groups : List (List ℕ)
+  pub sizes : AllByRecursion FitsOnLine groups
+  pub steps_are : flat_map (λ group. group) groups ≡ job.steps
+  pub lines_are : spelled (map words (lines text)) ≡ job_lines job ++ map steps_line groups

@@ -1,4 +1,11 @@
+pub mod Finding
 pub mod Form
+pub mod Frames
+pub mod Given
+pub mod JobText
+pub mod Line
+pub mod OfMaps
 pub mod Printing
 pub mod Reading
+pub mod Standing
 pub mod Words

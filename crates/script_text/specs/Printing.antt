@@ -1,6 +1,8 @@
--- The canonical lines of a job: one space between words, no leading zeros.
-use Rattle.std.specs.Prelude.{ℕ, List, [], ◌∷◌, ◌++◌, codes, decimal, map, flat_map}
-use Rattle.text_lines.specs.Lines.{Row}
+-- How a job is written: each thing in one way, nothing that says 0, and steps in lines of 32.
+use Rattle.std.specs.Prelude.{ℕ, zero, suc, nat_eq, if◌then◌else◌, List, [], ◌∷◌, ◌++◌, codes, decimal, map, flat_map}
+use Rattle.std.specs.List.{onto_first}
+use Rattle.text_lines.specs.Lines.{Row, text_of}
+use Rattle.ledger_model.specs.declared.job.Job.{Job}
 use Rattle.ledger_model.specs.declared.script.Operand.{Operand}
 use Rattle.ledger_model.specs.declared.script.Operand.TheVariants.{Reg, Number}
 use Rattle.ledger_model.specs.declared.script.Script.{Script}
@@ -66,8 +68,32 @@ worker_lines scripts = (codes "worker" ∷ []) ∷ flat_map script_lines scripts
 abbrev pub opening_line : ℕ × ℕ → Row
 opening_line opening = codes "ref" ∷ decimal opening.0 ∷ decimal opening.1 ∷ []
 
-abbrev pub refs_line : ℕ → Row
-refs_line refs = codes "refs" ∷ decimal refs ∷ []
+-- a header, where there is something of its kind
+abbrev pub header_lines : List ℕ → ℕ → List Row
+header_lines word n = if nat_eq n 0 then [] else (word ∷ decimal n ∷ []) ∷ []
+
+-- The numbers in groups of 32. The first group has room for so many more.
+abbrev pub in_groups : ℕ → List ℕ → List (List ℕ)
+in_groups room [] = []
+in_groups zero (n ∷ more) = [] ∷ onto_first n (in_groups 31 more)
+in_groups (suc room) (n ∷ more) = onto_first n (in_groups room more)
+
+abbrev pub steps_line : List ℕ → Row
+steps_line steps = codes "steps" ∷ map decimal steps
+
+abbrev pub steps_lines : List ℕ → List Row
+steps_lines steps = map steps_line (in_groups 32 steps)
 
 abbrev pub head_line : Row
 head_line = codes "stm" ∷ codes "1" ∷ []
+
+-- all lines but those of steps
+abbrev pub job_lines : Job → List Row
+job_lines job =
+    head_line ∷
+    header_lines (codes "refs") job.refs ++ (header_lines (codes "maps") job.maps ++
+    (header_lines (codes "snaps") job.snaps ++ (header_lines (codes "blocks") job.blocks ++
+    (map opening_line job.openings ++ flat_map worker_lines job.workers))))
+
+abbrev pub canonical : Job → List ℕ
+canonical job = text_of (job_lines job ++ steps_lines job.steps)

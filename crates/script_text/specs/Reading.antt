@@ -1,115 +1,152 @@
--- Private: which job the lines of a text say, one step for each line. The code is proved to read so, and `Form` says what that comes to.
-use Rattle.std.specs.Prelude.{◌≡◌, ℕ, ◌+◌, nat_eq, nat_lt, nat_le, if◌then◌else◌, List, [], ◌∷◌, ◌++◌, length, map, codes, bytes_eq, Option, Some, None, Result, Ok, Err}
-use Rattle.text_lines.specs.Lines.{Row, lines, fields, ends_every_line}
-use Rattle.text_lines.specs.Numbers.{number_of}
+-- Private: what the lines so far have said, as the reader keeps it, in the terms of the definition.
+use Rattle.std.specs.Prelude.{ℕ, ◌≡◌, ⊤, ◌+◌, Bool, true, false, not, ◌&&◌, ◌||◌, bytes_eq, nat_eq, nat_le, nat_lt, if◌then◌else◌, List, [], ◌∷◌, ◌++◌, map, length, Option, Some, None, unwrap_or, Result, Ok, Err}
+use Rattle.text_lines.specs.Lines.{Row}
 use Rattle.ledger_model.specs.declared.job.Job.{Job}
-use Rattle.ledger_model.specs.declared.reason.Reason.TheVariants.{Unbuilt}
+use Rattle.ledger_model.specs.declared.reason.Reason.{Reason}
 use Rattle.ledger_model.specs.declared.script.Script.{Script}
+use Rattle.script_text.specs.declared.fault.Fault.{Fault}
+use Rattle.script_text.specs.declared.fault.Fault.TheVariants as fault
 use Rattle.ledger_model.specs.declared.script.Statement.{Statement}
 use Rattle.ledger_model.specs.declared.script.Statement.TheVariants as made
-use Rattle.script_text.specs.declared.words.Keyword.{Keyword}
-use Rattle.script_text.specs.declared.words.Keyword.TheVariants as key
+use Rattle.script_text.specs.declared.fault.ParseFault.{ParseFault}
+use Rattle.script_text.specs.declared.fault.ParseFault.TheVariants as parsing
+use Rattle.script_text.specs.declared.keyword.Keyword.{Keyword}
+use Rattle.script_text.specs.declared.frames.Begun.{Begun}
+use Rattle.script_text.specs.declared.frames.Begun.TheVariants as begun
 use Rattle.script_text.specs.declared.line.Line.{Line}
 use Rattle.script_text.specs.declared.line.Line.TheVariants as says
-use Rattle.script_text.specs.declared.reader.Opened.{Opened}
+use Rattle.script_text.specs.declared.section.Section.{Section}
+use Rattle.script_text.specs.declared.section.Section.TheVariants as section
 use Rattle.script_text.specs.declared.reader.Reader.{Reader}
-use Rattle.script_text.specs.declared.reader.Reader.TheVariants as now
-use Rattle.script_text.specs.declared.fault.ParseFault.{ParseFault}
-use Rattle.script_text.specs.declared.fault.ParseFault.TheVariants as fault
-use Rattle.script_text.specs.Words.{◌>>=◌, keyword_of, below, register_of, operand_of, no_field, one_field, two_fields}
+use Rattle.script_text.specs.Words.{◌>>=◌, keyword_word}
+use Rattle.script_text.specs.Standing.{Standing, after, in_script, in_part, rank}
+use Rattle.script_text.specs.JobText.{Remainder, in_front, rest_of, lines_said}
+use Rattle.script_text.specs.Frames.{opener_of, closed}
+use Rattle.script_text.specs.Given.{IsRefused}
 
--- ---- what a line says
+-- The section come to: behind the line of references no reader is before it.
+abbrev pub come_to : Section → Option ℕ → Section
+come_to section.Start (Some n) = section.Refs
+come_to section.Start None = section.Start
+come_to section.Head (Some n) = section.Refs
+come_to section.Head None = section.Head
+come_to other refs = other
 
--- what is made of one field, read in this way
-abbrev pub one : {A C : Type 0} → (List ℕ → Option A) → (A → C) → Row → Option C
-one read make args = one_field args >>= λ a. read a >>= λ x. Some (make x)
+-- where the next line stands
+abbrev pub standing_of : Reader → Standing
+standing_of reader = record {
+  come_to = come_to reader.come_to reader.refs;
+  refs = unwrap_or reader.refs 0;
+  next = reader.next;
+  workers = reader.worker_count;
+  scripts = reader.script_count;
+  steps = length reader.steps;
+  openers = map opener_of reader.frames;
+}
 
--- what is made of two fields, each read in its own way
-abbrev pub two : {A B C : Type 0} → (List ℕ → Option A) → (List ℕ → Option B) → (A → B → C) → Row → Option C
-two read also make args = two_fields args >>= λ w. read w.0 >>= λ x. also w.1 >>= λ y. Some (make x y)
+-- the scripts of the last worker
+abbrev pub scripts_with : Reader → Remainder → List Script
+scripts_with reader rest = reader.scripts ++ (closed reader.frames reader.block rest.blocks ++ rest.scripts)
 
--- the statement of a keyword and the fields behind it, which names references below `refs` alone
-abbrev pub statement_of : ℕ → Keyword → Row → Option Statement
-statement_of refs key.Const args = two register_of number_of made.Const args
-statement_of refs key.Read args = two register_of (below refs) made.Read args
-statement_of refs key.Write args = two (below refs) operand_of made.Write args
-statement_of refs key.Add args = two register_of operand_of made.Add args
-statement_of refs key.Sub args = two register_of operand_of made.Sub args
-statement_of refs key.Print args = one operand_of made.Print args
-statement_of refs _ args = None
+-- what was said, with this behind it
+abbrev pub job_so_far : Reader → Remainder → Job
+job_so_far reader rest = record {
+  refs = unwrap_or reader.refs rest.refs;
+  maps = 0;
+  snaps = 0;
+  blocks = 0;
+  openings = reader.openings ++ rest.openings;
+  workers = reader.workers ++ (if nat_eq reader.worker_count 0 then rest.workers else scripts_with reader rest ∷ rest.workers);
+  steps = reader.steps ++ rest.steps;
+}
 
--- what a keyword and the fields behind it say
-abbrev pub said : ℕ → Keyword → Row → Option Line
-said refs key.Refs args = one (below 65537) says.Refs args
-said refs key.Ref args = two (below refs) number_of says.Opening args
-said refs key.Worker args = no_field args >>= λ _. Some says.Worker
-said refs key.Script args = no_field args >>= λ _. Some says.Script
-said refs key.End args = no_field args >>= λ _. Some says.End
-said refs keyword args = statement_of refs keyword args >>= λ m. Some (says.Plain m)
+-- what the further lines make of it, from this line number on
+abbrev pub job_from : Reader → ℕ → List Row → Result Job (ℕ × Reason)
+job_from reader n rows = lines_said (standing_of reader) n rows >>= λ said. Ok (job_so_far reader (rest_of said))
 
-abbrev pub line_of : ℕ → Row → Option Line
-line_of refs [] = None
-line_of refs (word ∷ args) = keyword_of word >>= λ keyword. said refs keyword args
+-- A reader takes such a line in such a place.
+abbrev pub may_come : Standing → Line → Bool
+may_come p says.Head = nat_eq (rank p.come_to) 0
+may_come p (says.Refs n) = nat_le (rank p.come_to) 1
+may_come p says.Worker = not (in_script p) && nat_lt p.workers 16
+may_come p says.Script = not (in_script p) && nat_lt p.scripts 4096
+may_come p says.Or = in_part p.openers
+may_come p _ = true
 
--- ---- the step of a line
+-- the workers before the last one, and the last one, if there is one
+abbrev pub workers_so_far : Reader → List (List Script)
+workers_so_far reader = if nat_eq reader.worker_count 0 then reader.workers else reader.workers ++ reader.scripts ∷ []
 
--- so many references, with no opening yet
-abbrev pub opened : ℕ → Opened
-opened refs = record { refs = refs; next = 0; openings = [] }
+-- before the first line
+abbrev pub fresh : Reader
+fresh = record {
+  come_to = section.Start;
+  refs = None;
+  next = 0;
+  openings = [];
+  worker_count = 0;
+  workers = [];
+  script_count = 0;
+  scripts = [];
+  block = [];
+  frames = [];
+  steps = [];
+}
 
--- a further opening; one of 0 opens nothing
-abbrev pub with_opening : Opened → ℕ → ℕ → Opened
-with_opening o cell n = record { refs = o.refs; next = cell + 1; openings = if nat_eq n 0 then o.openings else o.openings ++ (cell, n) ∷ [] }
+-- with a block begun
+abbrev pub began : Reader → Begun → Reader
+began reader begun = record reader { block = []; frames = record { begun = begun; outer = reader.block } ∷ reader.frames }
 
-abbrev pub refs_of : Reader → ℕ
-refs_of now.Head = 0
-refs_of (now.Openings o) = o.refs
-refs_of (now.Worker o workers scripts) = o.refs
-refs_of (now.Script o workers scripts block) = o.refs
+-- with the innermost block put behind these parts, and a further one begun
+abbrev pub with_part : Reader → List (List Statement) → List Statement → Reader
+with_part reader parts outer = record reader { block = []; frames = record { begun = begun.Either (parts ++ reader.block ∷ []); outer = outer } ∷ reader.frames }
 
--- what a line makes of what the lines before it have said, where it may stand there
-abbrev pub taken : Reader → Line → Option Reader
-taken now.Head (says.Refs n) = Some (now.Openings (opened n))
-taken now.Head says.Worker = Some (now.Worker (opened 0) [] [])
-taken (now.Openings o) (says.Opening cell n) = if nat_le o.next cell then Some (now.Openings (with_opening o cell n)) else None
-taken (now.Openings o) says.Worker = Some (now.Worker o [] [])
-taken (now.Worker o workers scripts) says.Worker = if nat_lt (length workers) 15 then Some (now.Worker o (workers ++ scripts ∷ []) []) else None
-taken (now.Worker o workers scripts) says.Script = if nat_lt (length scripts) 4096 then Some (now.Script o workers scripts []) else None
-taken (now.Script o workers scripts block) (says.Plain m) = Some (now.Script o workers scripts (block ++ m ∷ []))
-taken (now.Script o workers scripts block) says.End = Some (now.Worker o workers (scripts ++ record { block = block } ∷ []))
-taken _ _ = None
+-- with the block that is begun by this and ended put where it belongs
+abbrev pub ended : Reader → Begun → List Statement → Reader
+ended reader begun.Script block = record reader { scripts = reader.scripts ++ record { block = block } ∷ [] }
+ended reader (begun.Inner r) block = record reader { block = reader.block ++ made.Inner r block ∷ [] }
+ended reader (begun.Either parts) block = record reader { block = reader.block ++ made.Either (parts ++ block ∷ []) ∷ [] }
+ended reader begun.Late block = record reader { block = reader.block ++ made.Late block ∷ [] }
 
-abbrev pub step : Reader → Row → Option Reader
-step reader row = line_of (refs_of reader) row >>= λ line. taken reader line
+-- It has taken the line.
+pub record Took (old new : Reader) (line : Line) : Type 0 where
+  pub place : standing_of new ≡ after (standing_of old) line
+  pub job : (rest : Remainder) → job_so_far new rest ≡ job_so_far old (in_front line rest)
 
--- ---- whole texts
+-- It has taken the line that was said.
+abbrev pub TookSaid : Reader → Reader → Result Line Reason → Type 0
+TookSaid old new (Ok line) = Took old new line
+TookSaid old new (Err reason) = ⊥
 
--- a job of references alone, without a schedule
-abbrev pub job_with : ℕ → List (ℕ × ℕ) → List (List Script) → Job
-job_with refs openings workers = record { refs = refs; maps = 0; snaps = 0; blocks = 0; openings = openings; workers = workers; steps = [] }
+-- It has taken the line that is given, or refuses it for the reason that is given.
+abbrev pub Follows : Result ⊤ Fault → Reader → Reader → Result Line Reason → Type 0
+Follows (Ok _) old new given = TookSaid old new given
+Follows (Err e) old new given = IsRefused e given
 
--- the job, where no script is open
-abbrev pub finished : Reader → Option Job
-finished now.Head = Some (job_with 0 [] [])
-finished (now.Openings o) = Some (job_with o.refs o.openings [])
-finished (now.Worker o workers scripts) = Some (job_with o.refs o.openings (workers ++ scripts ∷ []))
-finished (now.Script o workers scripts block) = None
+abbrev pub RefusedAt : Fault → Reader → Row → Type 0
+RefusedAt fault.Memory old row = Unit {0}
+RefusedAt (fault.Refused reason) old row = (n : ℕ) (rows : List Row) → job_from old n (row ∷ rows) ≡ Err (n, reason)
 
-abbrev pub read_on : Reader → List Row → Option Job
-read_on reader [] = finished reader
-read_on reader (row ∷ rows) = step reader row >>= λ next. read_on next rows
+-- The rows from this one on make what the further ones make of the new reader, or it is refused.
+abbrev pub Reads : Result ⊤ Fault → Reader → Reader → Row → Type 0
+Reads (Ok _) old new row = (n : ℕ) (rows : List Row) → job_from old n (row ∷ rows) ≡ job_from new (n + 1) rows
+Reads (Err e) old new row = RefusedAt e old row
 
--- the first line is the head of a job
-abbrev pub read_lines : List (List ℕ) → Option Job
-read_lines [] = None
-read_lines (line ∷ more) = if bytes_eq line (codes "stm 1") then read_on now.Head (map fields more) else None
+abbrev pub RefusedAtEnd : Fault → Reader → Type 0
+RefusedAtEnd fault.Memory reader = Unit {0}
+RefusedAtEnd (fault.Refused reason) reader = (n : ℕ) → job_from reader n [] ≡ Err (n, reason)
 
--- the job that a text says
-abbrev pub job_of : List ℕ → Option Job
-job_of text = if ends_every_line text then read_lines (lines text) else None
+-- No line is left.
+abbrev pub Finishes : Result Job Fault → Reader → Type 0
+Finishes (Ok job) reader = (n : ℕ) → job_from reader n [] ≡ Ok job
+Finishes (Err e) reader = RefusedAtEnd e reader
 
--- The call answers what is read. Where nothing is, it refuses the text as a whole; it may be out of memory.
-abbrev pub Reads : {A : Type 0} → Result A ParseFault → Option A → Type 0
-Reads (Ok x) read = read ≡ Some x
-Reads (Err fault.Memory) read = Unit {0}
-Reads (Err (fault.Script line reason)) read = (line ≡ 0) × (reason ≡ Unbuilt) × (read ≡ None)
+-- the fault of a line of this number
+abbrev pub fault_at : ℕ → Fault → ParseFault
+fault_at line fault.Memory = parsing.Memory
+fault_at line (fault.Refused reason) = parsing.Script line reason
+
+-- The word is that of one of these keywords.
+abbrev pub is_one_of : List Keyword → List ℕ → Bool
+is_one_of [] word = false
+is_one_of (keyword ∷ more) word = bytes_eq word (keyword_word keyword) || is_one_of more word

@@ -8,7 +8,8 @@ use stm_model::Memory;
 /// Why a text is not taken.
 #[derive(Clone, Copy, Debug, PartialEq, Eq)]
 pub enum ParseFault {
-    /// The line is refused, and no earlier one. Line 0 stands for the text as a whole.
+    /// The line is refused, and no earlier one. Lines count from 1, and one more than the number of
+    /// lines stands for the end of the text.
     Script { line: u64, reason: Reason },
     /// Out of memory.
     Memory,
@@ -24,8 +25,29 @@ impl From<Memory> for ParseFault {
     }
 }
 
-/// The text is not of the form that is built.
-pub const UNBUILT: ParseFault = ParseFault::Script {
-    line: 0,
-    reason: Reason::Unbuilt,
-};
+/// Why a line is not taken.
+#[derive(Clone, Copy)]
+pub enum Fault {
+    Memory,
+    Refused(Reason),
+}
+
+impl From<Memory> for Fault {
+    ghost use Rattle.script_text.specs.declared.fault.Fault.TheVariants as fault;
+
+    ghost from_gives = { λ _ e. e ≡ fault.Memory };
+
+    fn from(_memory: Memory) -> Fault {
+        Fault::Memory
+    }
+}
+
+impl From<Reason> for Fault {
+    ghost use Rattle.script_text.specs.declared.fault.Fault.TheVariants as fault;
+
+    ghost from_gives = { λ reason e. e ≡ fault.Refused reason };
+
+    fn from(reason: Reason) -> Fault {
+        Fault::Refused(reason)
+    }
+}

@@ -1,41 +1,86 @@
 //! From a job text to a job.
 
-ghost use Rattle.std.specs.Prelude.{◌≡◌, ◌⊎◌, IfOk, IfErr};
-ghost use Rattle.script_text.specs.Form.{IsTextOf, HasNoJob};
-ghost use Rattle.script_text.specs.Reading.{job_of, Reads};
+ghost use Rattle.std.specs.Prelude.{◌≡◌, ℕ, Ok, Err, IfOk};
+ghost use Rattle.ledger_model.specs.declared.reason.Reason.{Reason};
+ghost use Rattle.script_text.specs.JobText.{job_of};
+ghost use Rattle.script_text.specs.Finding.{begins_with_one, first_line_of};
+ghost use Rattle.script_text.specs.Reading.{fault_at, is_one_of};
+ghost use Rattle.text_lines.specs.Lines.{words};
 
-use crate::fault::{ParseFault, UNBUILT};
+use crate::fault::{Fault, ParseFault};
+use crate::keyword::Keyword;
 use crate::reader::Reader;
-use ledger_model::{Job, Reason};
+use ledger_model::Job;
 use std::alloc::Global;
-use text_lines::{cut_line, ends_every_line};
+use text_lines::{cut_line, cut_word};
 
-/// The job of a text of the form that is built: the head `stm 1`, references, and workers whose
-/// scripts go straight on.
+/// The job that a text is. It is refused at its first line that may not stand where it does.
 pub fn parse(alloc: Global, text: &[u8]) -> Result<Job, ParseFault>
-    ensures job { IfOk result (IsTextOf text.now) }
-    ensures refused { result ≡ Err (ParseFault.Script 0 Reason.Unbuilt) → HasNoJob text.now }
-    ensures faults { IfErr result (λ fault.
-        (fault ≡ ParseFault.Script 0 Reason.Unbuilt) ⊎ (fault ≡ ParseFault.Memory)) }
+    ensures parsed { IfOk result (λ job. job_of text.now ≡ Ok job) }
+    ensures refused { (line : ℕ) (reason : Reason) →
+        result ≡ Err (ParseFault.Script line reason) → job_of text.now ≡ Err (line, reason) }
 {
-    job_of(alloc, text)
-}
-
-fn job_of(alloc: Global, text: &[u8]) -> Result<Job, ParseFault>
-    ensures { Reads result (job_of text.now) }
-{
-    if text.is_empty() || !ends_every_line(text) {
-        return Err(UNBUILT);
-    }
-    let (head, mut rest) = cut_line(text);
-    if head != b"stm 1".as_slice() {
-        return Err(UNBUILT);
-    }
-    let mut reader = Reader::Head;
+    let mut reader = Reader::new(alloc);
+    let mut rest = text;
+    let mut number: u64 = 1;
     while !rest.is_empty() {
         let (line, after) = cut_line(rest);
-        reader = reader.step(alloc, line)?;
+        match reader.line(alloc, line) {
+            Ok(()) => {
+                number += 1;
+                rest = after;
+            }
+            Err(fault) => return Err(at_line(number, fault)),
+        }
+    }
+    match reader.finish(alloc) {
+        Ok(job) => Ok(job),
+        Err(fault) => Err(at_line(number, fault)),
+    }
+}
+
+fn at_line(line: u64, fault: Fault) -> ParseFault
+    ensures { result ≡ fault_at line fault }
+{
+    match fault {
+        Fault::Memory => ParseFault::Memory,
+        Fault::Refused(reason) => ParseFault::Script { line, reason },
+    }
+}
+
+/// The number, from 1, of the first line that begins with one of these keywords.
+pub fn first_line_of(keywords: &[Keyword], text: &[u8]) -> Option<u64>
+    ensures { result ≡ first_line_of keywords.now text.now }
+{
+    let mut rest = text;
+    let mut at: u64 = 1;
+    while !rest.is_empty() {
+        let (line, after) = cut_line(rest);
+        if begins_with_one(keywords, line) {
+            return Some(at);
+        }
+        at += 1;
         rest = after;
     }
-    reader.finish(alloc)
+    None
+}
+
+fn begins_with_one(keywords: &[Keyword], line: &[u8]) -> bool
+    ensures { result ≡ begins_with_one keywords.now (words line.now) }
+{
+    match cut_word(line) {
+        Some((first, _)) => is_one_of(keywords, first),
+        None => false,
+    }
+}
+
+fn is_one_of(keywords: &[Keyword], word: &[u8]) -> bool
+    ensures { result ≡ is_one_of keywords.now word.now }
+{
+    for keyword in keywords {
+        if word == keyword.word() {
+            return true;
+        }
+    }
+    false
 }

@@ -1,12 +1,19 @@
-//! The text of a job: reading it, and what its form means.
+//! The text of a job: reading it, printing it, and what its form means.
 #![tactic(auto)]
 
 mod fault;
+mod frames;
 mod job_text;
+mod keyword;
 pub mod laws;
 mod line;
+mod printing;
 mod reader;
+mod section;
 mod words;
+pub mod worked;
 
 pub use fault::ParseFault;
-pub use job_text::parse;
+pub use job_text::{first_line_of, parse};
+pub use keyword::Keyword;
+pub use printing::print;
