@@ -1,3 +1,4 @@
+pub mod Blocks
 pub mod Each
 pub mod Listing
 pub mod Openings

@@ -22,6 +22,7 @@ use Rattle.plain_run.specs.Listed.{Listed, writers_after, row_of, with_run}
 use Rattle.plain_run.specs.Plain.{IsPlain}
 use Rattle.plain_run.proofs.Each.{each_push, each_weaker, each_from_both, filter_none, range_push}
 use Rattle.plain_run.proofs.Order.{less_or_tied-le, less_or_tied-less, less_or_tied-same, less_or_tied-later, by_position, comes_after_position, in_order_push, in_turns_push}
+use Rattle.plain_run.proofs.Blocks.{none_too_many}
 use Rattle.plain_run.proofs.Telling.{writers_of-push_writer, writers_of-push_other, contents_after-push, contents_after-last, TellsAfter, tells_alike, tells-push}
 
 -- the row of another worker's script is none of this one's
@@ -235,6 +236,7 @@ Listed-with_run job settings worker ran progress listed named plain unchanged cl
       rows = told job settings worker ran progress o ready;
       in_turns = in_turns job settings worker ran progress o ready;
       contents = contents job settings worker ran progress o ready;
+      undrawn = each_push (λ row. row.drawn ≡ 0) progress.rows (row_of worker (ran + 1) progress.writers o) listed.undrawn refl;
     }
 
 -- ---- workers
@@ -253,6 +255,7 @@ Listed-start job settings = record {
   rows = tt;
   in_turns = tt;
   contents = refl;
+  undrawn = tt;
 }
 
 split_last : (a b : ℕ) → a < b + 1 → (a < b) ⊎ (a ≡ b)
@@ -279,6 +282,7 @@ Listed-next_worker job settings worker ran progress all l =
       rows = l.rows;
       in_turns = l.in_turns;
       contents = l.contents;
+      undrawn = l.undrawn;
     }
 
 -- where all workers have run, the listing replays the job
@@ -295,4 +299,5 @@ Replays-all_workers job settings worker progress past l = record {
   blocked = refl;
   worn = refl;
   contents = l.contents ∙ ap (λ (k : ℕ). contents_after job progress.rows k) l.writers;
+  used = λ n. none_too_many job progress.rows n l.undrawn;
 }

@@ -52,3 +52,4 @@ pub record Listed (job : Job) (settings : Settings) (worker ran : ℕ) (progress
   pub rows : AllByRecursion (TellsRow job settings progress.rows) progress.rows
   pub in_turns : InTurns progress.rows
   pub contents : progress.contents ≡ contents_after job progress.rows progress.writers
+  pub undrawn : AllByRecursion (λ row. row.drawn ≡ 0) progress.rows
