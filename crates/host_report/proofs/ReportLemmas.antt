@@ -1,116 +1,188 @@
--- The lines of a report are rows of words, and they tell the rows, the references and the blocks in use.
-use Rattle.std.proofs.Common.{◌≡◌, ◌↔◌, ℕ, ◌+◌, ◌<◌, ◌^◌, Bool, true, nat_eq, List, [], ◌∷◌, ◌++◌, map, length, refl, ap, ◌∙◌, sym, arith, codes, decimal}
+-- The lines of a report are rows of words, and they tell the listing.
+use Rattle.std.proofs.Common.{◌≡◌, ℕ, Bool, true, false, MatchBool, List, [], ◌∷◌, ◌++◌, map, length, refl, ap, ◌∙◌, sym, codes, decimal}
 use Rattle.std.proofs.lemmas.Fmt.{decimal_injective}
-use Rattle.std.specs.List.{AllByRecursion, list_all, enumerate_from}
+use Rattle.std.specs.List.{AllByRecursion, enumerate_from}
+use Rattle.std.specs.Str.{bytes_eq}
 use Rattle.stm_model.specs.declared.settings.Settings.{Settings}
-use Rattle.text_lines.specs.Lines.{Row as Line, AreWords, lines, words}
-use Rattle.text_lines.proofs.Lists.{AllByRecursion-append, AllByRecursion-map, heads_same, stops, front_same, map_same}
+use Rattle.text_lines.specs.Lines.{Row as Line, is_word, AreWords, lines, words}
+use Rattle.text_lines.proofs.Lists.{AllByRecursion-append, AllByRecursion-map, heads_same, front_same, map_same}
 use Rattle.text_lines.proofs.LineLemmas.{words_come_back, words_same}
 use Rattle.text_lines.proofs.NumberLemmas.{all_digits, decimal_digits, decimal_word}
+use Rattle.ledger_model.specs.declared.job.Contents.{Contents}
 use Rattle.ledger_model.specs.declared.job.Job.{Job}
 use Rattle.ledger_model.specs.declared.listing.Listing.{Listing}
 use Rattle.ledger_model.specs.declared.listing.Row.{Row}
-use Rattle.ledger_model.specs.Replays.{Replays, contents_after, writers_of}
-use Rattle.ledger_model.specs.Report.{row_line, ref_line, ref_lines, count_line, closing_lines, report_lines, report}
-use Rattle.host_report.specs.OneText.{ShowSame, TextFixesListing}
-use Rattle.host_report.specs.WithinTypes.{IsWord, IsRowWithinTypes, IsWithinTypes}
-use Rattle.host_report.proofs.RowLemmas.{all_pass, first_byte, row_line_of_words, row_same}
+use Rattle.ledger_model.specs.declared.listing.RowResult.{RowResult}
+use Rattle.ledger_model.specs.declared.listing.RowResult.TheVariants.{Done, Fail, Spent, Full}
+use Rattle.ledger_model.specs.Replays.{Replays, TellsReader, TellsResult, TellsRow, TellsWriter, contents_after, run_of, writers_of}
+use Rattle.ledger_model.specs.Run.{Outcome}
+use Rattle.ledger_model.specs.Report.{name_word, row_line, has_text, rolled_line, left_line, ref_line, ref_lines, pair_lines, contents_lines, rolled_and_left_lines, closing_lines, report_lines, report}
+use Rattle.ledger_model.specs.Reported.{HaveAsMany, IsReportedWhole, PrintsIfDone, ShowsDoom}
+use Rattle.ledger_model.proofs.Listed.{listed_sized}
+use Rattle.host_report.specs.OneText.{OneTextOneListing, TextFixesListing}
+use Rattle.host_report.specs.WithinTypes.{IsNameWithinTypes, IsRolledWithinTypes, IsRowWithinTypes, IsWithinTypes, IsWord}
+use Rattle.host_report.proofs.WordLemmas.{all_both, all_of_none, all_pass, all_weaker, name_is_word, name_same}
+use Rattle.host_report.proofs.RowLemmas.{IsRowShown, row_line_of_words, row_same}
+use Rattle.host_report.proofs.RolledLemmas.{IsRolledShown, rolled_line_of_words, rolled_same}
+use Rattle.host_report.proofs.ContentsLemmas.{by_contents, contents_of_words, maps_same, refs_same}
+use Rattle.host_report.proofs.Parts.{begins, behind_rows, blocked_stop, counts, counts_stop, from_blocked, from_maps, from_refs, from_rolled, from_slots, from_worn, maps_and_more_stop, maps_begin, part_begins, refs_stop, rolled_stop, slots_stop, worn_stop}
 
 -- ---- they are rows of words
 
-refs_of_words : (n : ℕ) (refs : List ℕ) → n + length refs < 2 ^ 64 → AllByRecursion IsWord refs → AllByRecursion AreWords (map ref_line (enumerate_from n refs))
-refs_of_words n [] l h = tt
-refs_of_words n (x ∷ refs) l h = ((refl, (decimal_word n (omega arith), (decimal_word x h.0, tt))), refs_of_words (n + 1) refs (omega arith) h.1)
+left_of_words : (word : List ℕ) (name : ℕ × ℕ) → is_word word ≡ true → IsNameWithinTypes name → AreWords (left_line word name)
+left_of_words word name w h = (w, (name_is_word name.0 name.1 h, tt))
+
+unsettled_of_words : (listing : Listing) → IsWithinTypes listing → AllByRecursion AreWords (rolled_and_left_lines listing)
+unsettled_of_words listing h =
+    AllByRecursion-append AreWords (map rolled_line listing.rolled) (map (left_line (codes "blocked")) listing.blocked ++ map (left_line (codes "worn")) listing.worn)
+    (AllByRecursion-map IsRolledWithinTypes AreWords rolled_line rolled_line_of_words listing.rolled h.rolled)
+    (AllByRecursion-append AreWords (map (left_line (codes "blocked")) listing.blocked) (map (left_line (codes "worn")) listing.worn)
+    (AllByRecursion-map IsNameWithinTypes AreWords (left_line (codes "blocked")) (λ name. left_of_words (codes "blocked") name refl) listing.blocked h.blocked)
+    (AllByRecursion-map IsNameWithinTypes AreWords (left_line (codes "worn")) (λ name. left_of_words (codes "worn") name refl) listing.worn h.worn))
 
 closing_of_words : (listing : Listing) → IsWithinTypes listing → AllByRecursion AreWords (closing_lines listing)
 closing_of_words listing h =
-    AllByRecursion-append AreWords (ref_lines listing.contents.refs) (count_line (codes "used") listing.contents.used ∷ count_line (codes "done") (length listing.rows) ∷ [])
-    (refs_of_words 0 listing.contents.refs (omega (arith, h.refs.count)) h.refs.each)
-    ((refl, (decimal_word listing.contents.used h.used, tt)), ((refl, (decimal_word (length listing.rows) h.rows.count, tt)), tt))
+    AllByRecursion-append AreWords (contents_lines listing.contents) (counts listing) (contents_of_words listing.contents h.contents)
+    ((refl, (decimal_word listing.contents.used h.contents.used, tt)), ((refl, (decimal_word (length listing.rows) h.rows.count, tt)), tt))
 
 -- each line of a report is a row of words
 pub report_of_words : (listing : Listing) → IsWithinTypes listing → AllByRecursion AreWords (report_lines listing)
 report_of_words listing h = (
   (refl, (refl, tt)),
-  AllByRecursion-append AreWords (map row_line listing.rows) (closing_lines listing)
-      (AllByRecursion-map IsRowWithinTypes AreWords row_line row_line_of_words listing.rows h.rows.each) (closing_of_words listing h),
+  AllByRecursion-append AreWords (map row_line listing.rows) (rolled_and_left_lines listing ++ closing_lines listing)
+      (AllByRecursion-map IsRowWithinTypes AreWords row_line row_line_of_words listing.rows h.rows.each)
+      (AllByRecursion-append AreWords (rolled_and_left_lines listing) (closing_lines listing) (unsettled_of_words listing h) (closing_of_words listing h)),
 )
 
 pub lines_come_back : (listing : Listing) → IsWithinTypes listing → map words (lines (report listing)) ≡ report_lines listing
 lines_come_back listing h = words_come_back (report_lines listing) (report_of_words listing h)
 
--- ---- where one part ends and the next begins
+-- ---- their parts are told apart
 
--- the first word of a line, or none
-abbrev first_word : Line → List ℕ
-first_word [] = []
-first_word (word ∷ line) = word
+-- this very word
+abbrev is : List ℕ → List ℕ → Bool
+is word other = bytes_eq other word
 
--- The line begins with a number. Lines of rows do, and those behind them don't.
-abbrev begins_with_number : Line → Bool
-begins_with_number line = all_digits (first_word line)
-
--- The line begins with 'r'. Lines of references do, and those behind them don't.
-abbrev begins_with_r : Line → Bool
-begins_with_r line = nat_eq (first_byte (first_word line)) 114
-
-row_begins : (row : Row) → IsRowWithinTypes row → begins_with_number (row_line row) ≡ true
+row_begins : (row : Row) → IsRowWithinTypes row → begins all_digits (row_line row) ≡ true
 row_begins row h = decimal_digits row.position h.position
 
-closing_stops_rows : (refs : List ℕ) (more : List Line) → stops begins_with_number more ≡ true → stops begins_with_number (ref_lines refs ++ more) ≡ true
-closing_stops_rows [] more h = h
-closing_stops_rows (x ∷ refs) more h = refl
+left_same : (word : List ℕ) (a b : ℕ × ℕ) → IsNameWithinTypes a → IsNameWithinTypes b → left_line word a ≡ left_line word b → a ≡ b
+left_same word a b h k e =
+    let names : name_word a.0 a.1 ≡ name_word b.0 b.1 = cc in
+    let t = name_same a.0 a.1 b.0 b.1 h k names in
+    by_parts a b t.0 t.1 where
+      by_parts : (a b : ℕ × ℕ) → a.0 ≡ b.0 → a.1 ≡ b.1 → a ≡ b
+      by_parts a b p n = rw (p, n) refl
 
-refs_begin : (n : ℕ) (refs : List ℕ) → list_all begins_with_r (map ref_line (enumerate_from n refs)) ≡ true
-refs_begin n [] = refl
-refs_begin n (x ∷ refs) = refs_begin (n + 1) refs
+-- each part of the one is that part of the other
+record SameParts (a b : Listing) : Type 0 where
+  rows : map row_line a.rows ≡ map row_line b.rows
+  rolled : map rolled_line a.rolled ≡ map rolled_line b.rolled
+  blocked : map (left_line (codes "blocked")) a.blocked ≡ map (left_line (codes "blocked")) b.blocked
+  worn : map (left_line (codes "worn")) a.worn ≡ map (left_line (codes "worn")) b.worn
+  refs : ref_lines a.contents.refs ≡ ref_lines b.contents.refs
+  maps : pair_lines (codes "map") a.contents.maps ≡ pair_lines (codes "map") b.contents.maps
+  slots : pair_lines (codes "snap") a.contents.slots ≡ pair_lines (codes "snap") b.contents.slots
+  counts : counts a ≡ counts b
 
--- ---- they tell what they were made of
+parts_same : (a b : Listing) → IsWithinTypes a → IsWithinTypes b → map row_line a.rows ++ from_rolled a ≡ map row_line b.rows ++ from_rolled b → SameParts a b
+parts_same a b h k e =
+    let rows = front_same (begins all_digits) (map row_line a.rows) (map row_line b.rows) (from_rolled a) (from_rolled b)
+    (all_pass IsRowWithinTypes (begins all_digits) row_line row_begins a.rows h.rows.each) (all_pass IsRowWithinTypes (begins all_digits) row_line row_begins b.rows k.rows.each)
+    (rolled_stop all_digits a refl refl refl (refl, refl, refl, refl)) (rolled_stop all_digits b refl refl refl (refl, refl, refl, refl)) e in
+    let rolled = front_same (begins (is (codes "rolled"))) (map rolled_line a.rolled) (map rolled_line b.rolled) (from_blocked a) (from_blocked b)
+    (part_begins (is (codes "rolled")) rolled_line a.rolled (λ x. refl)) (part_begins (is (codes "rolled")) rolled_line b.rolled (λ x. refl))
+    (blocked_stop (is (codes "rolled")) a refl refl (refl, refl, refl, refl)) (blocked_stop (is (codes "rolled")) b refl refl (refl, refl, refl, refl)) rows.1 in
+    let blocked = front_same (begins (is (codes "blocked"))) (map (left_line (codes "blocked")) a.blocked) (map (left_line (codes "blocked")) b.blocked) (from_worn a) (from_worn b)
+    (part_begins (is (codes "blocked")) (left_line (codes "blocked")) a.blocked (λ x. refl)) (part_begins (is (codes "blocked")) (left_line (codes "blocked")) b.blocked (λ x. refl))
+    (worn_stop (is (codes "blocked")) a refl (refl, refl, refl, refl)) (worn_stop (is (codes "blocked")) b refl (refl, refl, refl, refl)) rolled.1 in
+    let worn = front_same (begins (is (codes "worn"))) (map (left_line (codes "worn")) a.worn) (map (left_line (codes "worn")) b.worn) (from_refs a) (from_refs b)
+    (part_begins (is (codes "worn")) (left_line (codes "worn")) a.worn (λ x. refl)) (part_begins (is (codes "worn")) (left_line (codes "worn")) b.worn (λ x. refl))
+    (refs_stop (is (codes "worn")) a (refl, refl, refl, refl)) (refs_stop (is (codes "worn")) b (refl, refl, refl, refl)) blocked.1 in
+    let refs = front_same (begins (is (codes "ref"))) (ref_lines a.contents.refs) (ref_lines b.contents.refs) (from_maps a) (from_maps b)
+    (part_begins (is (codes "ref")) ref_line (enumerate_from 0 a.contents.refs) (λ x. refl)) (part_begins (is (codes "ref")) ref_line (enumerate_from 0 b.contents.refs) (λ x. refl))
+    (maps_and_more_stop (is (codes "ref")) a refl refl refl) (maps_and_more_stop (is (codes "ref")) b refl refl refl) worn.1 in
+    let maps = front_same (begins (is (codes "map"))) (pair_lines (codes "map") a.contents.maps) (pair_lines (codes "map") b.contents.maps) (from_slots a) (from_slots b)
+    (maps_begin (is (codes "map")) (codes "map") 0 a.contents.maps refl) (maps_begin (is (codes "map")) (codes "map") 0 b.contents.maps refl)
+    (slots_stop (is (codes "map")) a refl refl) (slots_stop (is (codes "map")) b refl refl) refs.1 in
+    let slots = front_same (begins (is (codes "snap"))) (pair_lines (codes "snap") a.contents.slots) (pair_lines (codes "snap") b.contents.slots) (counts a) (counts b)
+    (maps_begin (is (codes "snap")) (codes "snap") 0 a.contents.slots refl) (maps_begin (is (codes "snap")) (codes "snap") 0 b.contents.slots refl)
+    (counts_stop (is (codes "snap")) a refl) (counts_stop (is (codes "snap")) b refl) maps.1 in
+    record { rows = rows.0; rolled = rolled.0; blocked = blocked.0; worn = worn.0; refs = refs.0; maps = maps.0; slots = slots.0; counts = slots.1 }
 
-refs_same : (n : ℕ) (xs ys : List ℕ) → AllByRecursion IsWord xs → AllByRecursion IsWord ys → map ref_line (enumerate_from n xs) ≡ map ref_line (enumerate_from n ys) → xs ≡ ys
-refs_same n [] [] h k e = refl
-refs_same n [] (y ∷ ys) h k e = cc
-refs_same n (x ∷ xs) [] h k e = cc
-refs_same n (x ∷ xs) (y ∷ ys) h k e =
-    let t = heads_same (ref_line (n, x)) (ref_line (n, y)) (map ref_line (enumerate_from (n + 1) xs)) (map ref_line (enumerate_from (n + 1) ys)) e in
-    let digits : decimal x ≡ decimal y = cc in
-    let first = decimal_injective x y h.0 k.0 digits in
-    let rest = refs_same (n + 1) xs ys h.1 k.1 t.1 in
-    cc
-
--- listings with one report show the same
-pub shown_same : (a b : Listing) → IsWithinTypes a → IsWithinTypes b → report a ≡ report b → ShowSame a b
-shown_same a b h k e =
-    let all = words_same (report_lines a) (report_lines b) (report_of_words a h) (report_of_words b k) e in
-    let body = heads_same (codes "ledger" ∷ codes "1" ∷ []) (codes "ledger" ∷ codes "1" ∷ []) (map row_line a.rows ++ closing_lines a) (map row_line b.rows ++ closing_lines b) all in
-    let rows = front_same begins_with_number (map row_line a.rows) (map row_line b.rows) (closing_lines a) (closing_lines b)
-    (all_pass IsRowWithinTypes begins_with_number row_line row_begins a.rows h.rows.each) (all_pass IsRowWithinTypes begins_with_number row_line row_begins b.rows k.rows.each)
-    (closing_stops_rows a.contents.refs _ refl) (closing_stops_rows b.contents.refs _ refl) body.1 in
-    let refs = front_same begins_with_r (ref_lines a.contents.refs) (ref_lines b.contents.refs) _ _ (refs_begin 0 a.contents.refs) (refs_begin 0 b.contents.refs) refl refl rows.1 in
-    let used : decimal a.contents.used ≡ decimal b.contents.used = cc in
-    record {
-      rows = map_same IsRowWithinTypes row_line row_same a.rows b.rows h.rows.each k.rows.each rows.0;
-      refs = refs_same 0 a.contents.refs b.contents.refs h.refs.each k.refs.each refs.0;
-      used = decimal_injective a.contents.used b.contents.used h.used k.used used;
-    }
-
--- the report shows nothing else
-report_shows : (a b : Listing) → ShowSame a b → report a ≡ report b
-report_shows a b h = rw (h.rows, h.refs, h.used) refl
-
-pub one_report : (a b : Listing) → IsWithinTypes a → IsWithinTypes b → (report a ≡ report b) ↔ ShowSame a b
-one_report a b h k = (shown_same a b h k, report_shows a b)
-
--- ---- listings
+-- ---- listings with one report are equal
 
 by_fields : (a b : Listing) → a.rows ≡ b.rows → a.rolled ≡ b.rolled → a.blocked ≡ b.blocked → a.worn ≡ b.worn → a.contents ≡ b.contents → a ≡ b
 by_fields a b r o l w c = rw (r, o, l, w, c) refl
 
--- replaying one job with the same rows gives one listing
-pub replay_same : (job : Job) (settings others : Settings) (a b : Listing) → Replays job settings a → Replays job others b → a.rows ≡ b.rows → a ≡ b
-replay_same job settings others a b h k e =
-    by_fields a b e (h.rolled ∙ sym k.rolled) (h.blocked ∙ sym k.blocked) (h.worn ∙ sym k.worn)
-    (h.contents ∙ ap (λ (rows : List Row). contents_after job rows (length (writers_of rows))) e ∙ sym k.contents)
+used_same : (a b : Listing) → IsWord a.contents.used → IsWord b.contents.used → counts a ≡ counts b → a.contents.used ≡ b.contents.used
+used_same a b h k e =
+    let digits : decimal a.contents.used ≡ decimal b.contents.used = cc in
+    decimal_injective a.contents.used b.contents.used h k digits
+
+rows_shown : (a : Listing) → IsWithinTypes a → IsReportedWhole a → AllByRecursion IsRowShown a.rows
+rows_shown a h p = all_both IsRowWithinTypes (λ row. PrintsIfDone row.result row.prints) a.rows h.rows.each p.prints
+
+all_rolled_shown : (a : Listing) → IsWithinTypes a → IsReportedWhole a → AllByRecursion IsRolledShown a.rolled
+all_rolled_shown a h p =
+    all_both IsRolledWithinTypes (λ rolled. has_text rolled.cause ≡ true × ShowsDoom rolled.cause) a.rolled h.rolled
+    (all_both (λ rolled. has_text rolled.cause ≡ true) (λ rolled. ShowsDoom rolled.cause) a.rolled p.texts p.dooms)
+
+told_same : (a b : Listing) → IsWithinTypes a → IsWithinTypes b → IsReportedWhole a → IsReportedWhole b → HaveAsMany a b → SameParts a b → a ≡ b
+told_same a b h k p q many same =
+    by_fields a b
+    (map_same IsRowShown row_line row_same a.rows b.rows (rows_shown a h p) (rows_shown b k q) same.rows)
+    (map_same IsRolledShown rolled_line rolled_same a.rolled b.rolled (all_rolled_shown a h p) (all_rolled_shown b k q) same.rolled)
+    (map_same IsNameWithinTypes (left_line (codes "blocked")) (left_same (codes "blocked")) a.blocked b.blocked h.blocked k.blocked same.blocked)
+    (map_same IsNameWithinTypes (left_line (codes "worn")) (left_same (codes "worn")) a.worn b.worn h.worn k.worn same.worn)
+    (by_contents a.contents b.contents
+    (refs_same a.contents.refs b.contents.refs h.contents.refs.each k.contents.refs.each same.refs)
+    (maps_same (codes "map") a.contents.maps b.contents.maps many.maps h.contents.maps.count h.contents.maps.each k.contents.maps.each same.maps)
+    (maps_same (codes "snap") a.contents.slots b.contents.slots many.slots h.contents.slots.count h.contents.slots.each k.contents.slots.each same.slots)
+    (used_same a b h.contents.used k.contents.used same.counts))
+
+pub one_text : OneTextOneListing
+one_text a b h k p q many e =
+    let all = words_same (report_lines a) (report_lines b) (report_of_words a h) (report_of_words b k) e in
+    let body = heads_same (codes "ledger" ∷ codes "1" ∷ []) (codes "ledger" ∷ codes "1" ∷ []) (map row_line a.rows ++ (rolled_and_left_lines a ++ closing_lines a)) (map row_line b.rows ++ (rolled_and_left_lines b ++ closing_lines b)) all in
+    told_same a b h k p q many
+    (parts_same a b h k (sym (ap (λ (t : List Line). map row_line a.rows ++ t) (behind_rows a)) ∙ body.1 ∙ ap (λ (t : List Line). map row_line b.rows ++ t) (behind_rows b)))
+
+-- ---- listings that replay a job are shown whole
+
+result_done : (r : RowResult) (settings : Settings) (row : Row) (outcome : Outcome) → TellsResult r settings row outcome → r ≡ Done
+result_done Done settings row outcome h = refl
+result_done (Fail code) settings row outcome h = absurd h
+result_done Spent settings row outcome h = absurd h
+result_done (Full used allowance) settings row outcome h = absurd h
+
+done_prints : (r : RowResult) (prints : List ℕ) → r ≡ Done → PrintsIfDone r prints
+done_prints Done prints e = tt
+done_prints (Fail code) prints e = cc
+done_prints Spent prints e = cc
+done_prints (Full used allowance) prints e = cc
+
+told_done : (w : Bool) (job : Job) (settings : Settings) (rows : List Row) (row : Row) → MatchBool w (TellsWriter job settings rows row) (TellsReader job settings rows row) → row.result ≡ Done
+told_done true job settings rows row t = t.done
+told_done false job settings rows row t = result_done row.result settings row (run_of job row.worker row.number (contents_after job rows row.position)) t.tells
+
+replay_shown : (job : Job) (settings : Settings) (a : Listing) → Replays job settings a → IsReportedWhole a
+replay_shown job settings a h = record {
+  texts = all_of_none (λ rolled. has_text rolled.cause ≡ true) a.rolled h.rolled;
+  prints = all_weaker (TellsRow job settings a.rows) (λ row. PrintsIfDone row.result row.prints)
+      (λ row t. done_prints row.result row.prints (told_done row.writer job settings a.rows row t)) a.rows h.rows;
+  dooms = all_of_none (λ rolled. ShowsDoom rolled.cause) a.rolled h.rolled;
+}
+
+replays_have_as_many : (job : Job) (settings others : Settings) (a b : Listing) → Replays job settings a → Replays job others b → HaveAsMany a b
+replays_have_as_many job settings others a b h k =
+    let left = listed_sized job a.rows (length (writers_of a.rows)) in
+    let right = listed_sized job b.rows (length (writers_of b.rows)) in
+    record {
+      maps = ap (λ (c : Contents). length c.maps) h.contents ∙ left.1 ∙ sym right.1 ∙ sym (ap (λ (c : Contents). length c.maps) k.contents);
+      slots = ap (λ (c : Contents). length c.slots) h.contents ∙ left.2 ∙ sym right.2 ∙ sym (ap (λ (c : Contents). length c.slots) k.contents);
+    }
 
 pub text_fixes_listing : TextFixesListing
-text_fixes_listing job settings others a b h k p q e = replay_same job settings others a b p q (shown_same a b h k e).rows
+text_fixes_listing job settings others a b h k p q e =
+    one_text a b h k (replay_shown job settings a p) (replay_shown job others b q) (replays_have_as_many job settings others a b p q) e

@@ -1,3 +1,2 @@
 pub mod OneText
-pub mod OnlyRowsAndRefs
 pub mod WithinTypes

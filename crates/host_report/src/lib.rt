@@ -4,6 +4,7 @@
 pub mod laws;
 mod lines;
 mod report;
+mod rolled;
 mod row;
 
-pub use report::report_text;
+pub use report::{order_rows, report_text};

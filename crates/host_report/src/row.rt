@@ -3,8 +3,8 @@
 ghost use Rattle.std.specs.Prelude.{◌≡◌, ◌++◌, ◌∷◌, [], codes, decimal, map, OnOk};
 ghost use Rattle.std.specs.List.{AllByRecursion};
 ghost use Rattle.text_lines.specs.Lines.{line_of, spaced};
-ghost use Rattle.ledger_model.specs.Report.{drawn_words, kind_word, name_word, phase_word, result_words, row_line, run_word};
-ghost use Rattle.host_report.specs.WithinTypes.{IsWord, IsResultWithinTypes, IsRunWithinTypes, IsRowWithinTypes};
+ghost use Rattle.ledger_model.specs.Report.{drawn_words, kind_word, name_word, phase_word, print_words, result_words, row_line, run_word};
+ghost use Rattle.host_report.specs.WithinTypes.{IsNameWithinTypes, IsResultWithinTypes, IsRowWithinTypes, IsRunWithinTypes, IsWord};
 
 use ledger_model::{Row, RowResult};
 use std::alloc::AllocError;
@@ -33,8 +33,10 @@ fn phase_word(phase: HookPhase) -> &'static [u8]
     }
 }
 
-fn put_name(text: &mut Vec<u8>, worker: u16, number: u32) -> Result<(), AllocError>
-    ensures { OnOk result (text.new.items ≡ text.old.items ++ 32 ∷ name_word worker number) }
+/// Appends a space and the name of a script.
+pub fn put_name(text: &mut Vec<u8>, worker: u16, number: u32) -> Result<(), AllocError>
+    ensures text { OnOk result (text.new.items ≡ text.old.items ++ 32 ∷ name_word worker number) }
+    ensures within { IsNameWithinTypes (worker, number) }
 {
     put_number_word(text, u64::from(worker))?;
     put(text, b".")?;
@@ -60,14 +62,25 @@ fn put_result(text: &mut Vec<u8>, outcome: RowResult) -> Result<(), AllocError>
     }
 }
 
-fn put_prints(text: &mut Vec<u8>, prints: &Words) -> Result<(), AllocError>
-    ensures text { OnOk result (text.new.items ≡ text.old.items ++ spaced (map decimal prints.now)) }
-    ensures within { OnOk result (AllByRecursion IsWord prints.now) }
+/// Appends numbers, each behind a space.
+pub fn put_numbers(text: &mut Vec<u8>, numbers: &Words) -> Result<(), AllocError>
+    ensures text { OnOk result (text.new.items ≡ text.old.items ++ spaced (map decimal numbers.now)) }
+    ensures within { OnOk result (AllByRecursion IsWord numbers.now) }
 {
-    for print in prints.as_slice() {
-        put_number_word(text, *print)?;
+    for number in numbers.as_slice() {
+        put_number_word(text, *number)?;
     }
     Ok(())
+}
+
+fn put_prints(text: &mut Vec<u8>, outcome: RowResult, prints: &Words) -> Result<(), AllocError>
+    ensures text { OnOk result (text.new.items ≡ text.old.items ++ spaced (print_words outcome prints.now)) }
+    ensures within { OnOk result (outcome ≡ RowResult.Done → AllByRecursion IsWord prints.now) }
+{
+    match outcome {
+        RowResult::Done => put_numbers(text, prints),
+        _ => Ok(()),
+    }
 }
 
 fn put_run(text: &mut Vec<u8>, phase: HookPhase, token: u64) -> Result<(), AllocError>
@@ -107,7 +120,7 @@ pub fn put_row(text: &mut Vec<u8>, row: &Row) -> Result<(), AllocError>
     put_kind(text, row.writer)?;
     put_name(text, row.worker, row.number)?;
     put_result(text, row.result)?;
-    put_prints(text, &row.prints)?;
+    put_prints(text, row.result, &row.prints)?;
     put_runs(text, &row.runs)?;
     put_drawn(text, row.drawn)?;
     end_line(text)
