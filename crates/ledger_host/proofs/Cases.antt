@@ -1,14 +1,14 @@
 -- What follows from the answers of the top call, case by case.
-use Rattle.std.proofs.Common.{◌≡◌, ◌⊎◌, ◌∙◌, ◌≤◌, ◌+◌, ◌++◌, inl, inr, ℕ, List, length, length-append, append-nil, Option, Some, None, refl, sym, ap, subst, arith}
+use Rattle.std.proofs.Common.{◌≡◌, ◌⊎◌, ◌∙◌, ◌≤◌, ◌+◌, ◌++◌, inl, inr, ℕ, List, length, length-append, append-nil, Option, Some, None, Result, Ok, Err, refl, sym, ap, subst, arith}
 use Rattle.stm_io.specs.Faults.{Rose}
 use Rattle.stm_io.specs.Whole.{TookAll, TookCount, most_bytes}
 use Rattle.ledger_model.specs.declared.reason.Reason.{Reason}
-use Rattle.ledger_model.specs.declared.reason.Reason.TheVariants.{Unbuilt}
-use Rattle.script_text.specs.Form.{HasNoJob, IsTextOf}
+use Rattle.ledger_model.specs.declared.job.Job.{Job}
 use Rattle.script_text.specs.declared.fault.ParseFault.{ParseFault}
 use Rattle.script_text.specs.declared.fault.ParseFault.TheVariants as parsing
 use Rattle.ledger_host.specs.Refusals.{IsRefusalOf, refusal_of}
 use Rattle.ledger_host.specs.Words.{AsksTrace}
+use Rattle.ledger_host.specs.Accepted.{accepted_job}
 use Rattle.ledger_host.specs.Answers.{Answers, HasReport, IsRefused, IsRefusedText, TookTooMany, TellsJob, TellsNoJob}
 use Rattle.ledger_host.specs.declared.host.HostStatus.{HostStatus}
 use Rattle.ledger_host.specs.declared.host.HostStatus.TheVariants.{Done, Usage, Script, ReadFault, WriteFault, Memory}
@@ -37,15 +37,28 @@ not_too_long told before after line reason is few long =
 
 -- ---- a text that is refused has no report, and only its own refusal
 
+no_job : (text : List ℕ) (refused : ℕ × Reason) (job : Job) → accepted_job text ≡ Err refused → accepted_job text ≡ Ok job → ⊥
+no_job text refused job e k = ok_or_not (sym k ∙ e) where
+  ok_or_not : Ok job ≡ Err refused → ⊥
+  ok_or_not h = cc
+
 no_report : (told : List ℕ) (before after : Option (List ℕ)) (line : ℕ) (reason : Reason) (bytes : List ℕ) → before ≡ Some told → IsRefusedText told line reason → HasReport before after bytes → ⊥
 no_report told before after line reason bytes is (inl long) has =
     let same = ap length (all_told told has.text before after is has.all) in absurd (omega (arith, long.0, has.within))
 no_report told before after line reason bytes is (inr bad) has =
     let same = all_told told has.text before after is has.all in
-    bad.1.no_job has.report_of_text.job (subst (λ t. IsTextOf t has.report_of_text.job) (sym same) has.report_of_text.text_of_job)
+    no_job told (line, reason) has.report_of_text.job bad.1 (ap accepted_job same ∙ has.report_of_text.text_of_job)
 
 as_script : (line number : ℕ) (reason why : Reason) → line ≡ number → reason ≡ why → Script line reason ≡ Script number why
 as_script line number reason why l r = ap (λ (n : ℕ). Script n reason) l ∙ ap (λ (w : Reason). Script number w) r
+
+-- how a text that is refused is told
+abbrev told_as : Result Job (ℕ × Reason) → HostStatus
+told_as (Ok job) = Done
+told_as (Err refused) = Script refused.0 refused.1
+
+one_refusal : (text : List ℕ) (line number : ℕ) (reason why : Reason) → accepted_job text ≡ Err (line, reason) → accepted_job text ≡ Err (number, why) → Script line reason ≡ Script number why
+one_refusal text line number reason why e k = ap told_as (sym e ∙ k)
 
 only_refusal : (told : List ℕ) (before after : Option (List ℕ)) (line number : ℕ) (reason why : Reason) → before ≡ Some told → IsRefusedText told number why → IsRefused before after line reason
     → Script line reason ≡ Script number why
@@ -56,20 +69,19 @@ only_refusal told before after line number reason why is (inl long) (inr none) =
 only_refusal told before after line number reason why is (inr bad) (inl taken) =
     absurd (not_too_long told before after line reason is bad.0 taken)
 only_refusal told before after line number reason why is (inr bad) (inr none) =
-    as_script line number reason why (none.refused.line_is ∙ sym bad.1.line_is) (none.refused.reason_is ∙ sym bad.1.reason_is)
+    one_refusal told line number reason why (ap accepted_job (all_told told none.text before after is none.all) ∙ none.refused) bad.1
 
 -- a job's text isn't refused
 not_refused : (before after : Option (List ℕ)) (line : ℕ) (reason : Reason) → TellsJob before → IsRefused before after line reason → ⊥
 not_refused before after line reason told (inl long) = not_too_long told.text before after line reason told.told_is told.within long
 not_refused before after line reason told (inr none) =
-    none.refused.no_job told.job (subst (λ t. IsTextOf t told.job) (all_told told.text none.text before after told.told_is none.all) told.text_of_job)
+    no_job told.text (line, reason) told.job (ap accepted_job (all_told told.text none.text before after told.told_is none.all) ∙ none.refused) told.text_of_job
 
 -- what the reader of job texts refuses is explained
-pub refusal_of-explained : (text : List ℕ) (fault : ParseFault) → (fault ≡ parsing.Script 0 Unbuilt) ⊎ (fault ≡ parsing.Memory) → (fault ≡ parsing.Script 0 Unbuilt → HasNoJob text)
+pub refusal_of-explained : (text : List ℕ) (fault : ParseFault) → ((line : ℕ) (reason : Reason) → fault ≡ parsing.Script line reason → accepted_job text ≡ Err (line, reason))
     → IsRefusalOf text (refusal_of fault)
-refusal_of-explained text fault (inl is) none =
-    subst (λ (f : ParseFault). IsRefusalOf text (refusal_of f)) (sym is) (record { no_job = none is; line_is = refl; reason_is = refl })
-refusal_of-explained text fault (inr is) none = subst (λ (f : ParseFault). IsRefusalOf text (refusal_of f)) (sym is) tt
+refusal_of-explained text (parsing.Script line reason) why = why line reason refl
+refusal_of-explained text parsing.Memory why = tt
 
 -- ---- the clauses
 

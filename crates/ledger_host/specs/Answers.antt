@@ -1,18 +1,18 @@
 -- When each answer of the top call comes, and what it leaves.
-use Rattle.std.specs.Prelude.{◌≡◌, ◌⊎◌, ◌+◌, ◌<◌, ◌≤◌, ℕ, List, Option, Some, length}
+use Rattle.std.specs.Prelude.{◌≡◌, ◌⊎◌, ◌+◌, ◌<◌, ◌≤◌, ℕ, List, Option, Some, Ok, Err, length}
 use Rattle.std.specs.Io.KnownBytes.{Appends}
 use Rattle.stm_io.specs.Faults.{Rose}
 use Rattle.stm_io.specs.Whole.{AppendedProperFront, TookAll, TookAtMost, TookCount, most_bytes}
 use Rattle.ledger_model.specs.declared.job.Job.{Job}
 use Rattle.ledger_model.specs.declared.listing.Listing.{Listing}
 use Rattle.ledger_model.specs.declared.reason.Reason.{Reason}
-use Rattle.ledger_model.specs.declared.reason.Reason.TheVariants.{Long, Unbuilt}
+use Rattle.ledger_model.specs.declared.reason.Reason.TheVariants.{Long}
 use Rattle.ledger_model.specs.Replays.{Replays}
 use Rattle.ledger_model.specs.Report.{report}
 use Rattle.ledger_model.specs.Turns.{InTurns}
 use Rattle.host_report.specs.WithinTypes.{IsWithinTypes}
-use Rattle.script_text.specs.Form.{HasNoJob, IsTextOf}
 use Rattle.ledger_host.specs.Settings.{default_settings}
+use Rattle.ledger_host.specs.Accepted.{accepted_job}
 use Rattle.ledger_host.specs.Words.{AsksTrace}
 use Rattle.ledger_host.specs.declared.host.HostStatus.{HostStatus}
 use Rattle.ledger_host.specs.declared.host.HostStatus.TheVariants.{Done, Usage, Script, ReadFault, WriteFault, Memory}
@@ -21,7 +21,7 @@ use Rattle.ledger_host.specs.declared.host.HostStatus.TheVariants.{Done, Usage, 
 pub record IsReportOf (text bytes : List ℕ) : Type 0 where
   pub job : Job
   pub listing : Listing
-  pub text_of_job : IsTextOf text job
+  pub text_of_job : accepted_job text ≡ Ok job
   pub replays : Replays job (default_settings job) listing
   pub in_turns : InTurns listing.rows
   pub within : IsWithinTypes listing
@@ -36,29 +36,23 @@ pub record HasReport (before after : Option (List ℕ)) (bytes : List ℕ) : Typ
 
 -- ---- refusals: of a text, and of what was taken of a source, which is less than its text where that is too long
 
--- The text is no job's. In this form of the job language no line is named.
-pub record IsNoJob (text : List ℕ) (line : ℕ) (reason : Reason) : Type 0 where
-  pub no_job : HasNoJob text
-  pub line_is : line ≡ 0
-  pub reason_is : reason ≡ Unbuilt
-
 -- The source gave one byte more than a text may have.
 pub record TookTooMany (before after : Option (List ℕ)) (line : ℕ) (reason : Reason) : Type 0 where
   pub taken : TookCount before after (most_bytes + 1)
   pub line_is : line ≡ 0
   pub reason_is : reason ≡ Long
 
--- The source was read to its end, and its text is no job's.
+-- The source was read to its end, and its text is refused.
 pub record TookNoJob (before after : Option (List ℕ)) (line : ℕ) (reason : Reason) : Type 0 where
   pub text : List ℕ
   pub all : TookAll before after text
   pub within : length text ≤ most_bytes
-  pub refused : IsNoJob text line reason
+  pub refused : accepted_job text ≡ Err (line, reason)
 
--- the text is too long or no job's, so it is refused on this line for this reason
+-- the text is too long, or has a refused line: this one, for this reason
 abbrev pub IsRefusedText : List ℕ → ℕ → Reason → Type 0
 IsRefusedText text line reason =
-    ((most_bytes < length text) × (line ≡ 0) × (reason ≡ Long)) ⊎ ((length text ≤ most_bytes) × IsNoJob text line reason)
+    ((most_bytes < length text) × (line ≡ 0) × (reason ≡ Long)) ⊎ ((length text ≤ most_bytes) × (accepted_job text ≡ Err (line, reason)))
 
 -- The source tells its bytes, and they are a job's text.
 pub record TellsJob (told : Option (List ℕ)) : Type 0 where
@@ -66,7 +60,7 @@ pub record TellsJob (told : Option (List ℕ)) : Type 0 where
   pub job : Job
   pub told_is : told ≡ Some text
   pub within : length text ≤ most_bytes
-  pub text_of_job : IsTextOf text job
+  pub text_of_job : accepted_job text ≡ Ok job
 
 -- The source tells its bytes, and they are refused on this line for this reason.
 pub record TellsNoJob (told : Option (List ℕ)) (line : ℕ) (reason : Reason) : Type 0 where

@@ -7,12 +7,13 @@ ghost use Rattle.ledger_host.specs.Words.{AsksTrace};
 ghost use Rattle.ledger_host.specs.Refusals.{IsRefusalOf, IsRefusalFrom};
 ghost use Rattle.ledger_host.specs.Answers.{Answers, HasReport, IsReportOf, TellsJob, TellsNoJob};
 
+use crate::accepted::accepted_job;
 use crate::settings::default_settings;
 use crate::words::asks_trace;
 use host_report::report_text;
 use ledger_model::{Listing, Reason};
 use plain_run::run_in_turn;
-use script_text::{ParseFault, parse};
+use script_text::ParseFault;
 use std::alloc::Global;
 use stm_io::{ReadAllFault, Sink, Source, read_all, write_whole};
 use stm_model::Memory;
@@ -72,7 +73,7 @@ fn report_of(alloc: Global, text: &[u8]) -> Result<Vec<u8>, Refusal>
     ensures report { IfOk result (λ report. IsReportOf text.now report.items) }
     ensures refused { IfErr result (λ refusal. IsRefusalOf text.now refusal) }
 {
-    match parse(alloc, text) {
+    match accepted_job(alloc, text) {
         Ok(job) => {
             let listing = run_in_turn(alloc, &job, &default_settings(&job))?;
             Ok(report_text(alloc, &listing)?)

@@ -1,6 +1,7 @@
 //! The whole program but for its real streams: words, a source and a sink, and an answer.
 #![tactic(auto)]
 
+mod accepted;
 mod host;
 mod settings;
 mod words;

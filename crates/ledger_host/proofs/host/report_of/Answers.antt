@@ -7,9 +7,9 @@ use Rattle.ledger_host.proofs.host.report_of.Goals as goal
 
 pub run_in_turn-requires-clause-clock : goal.run_in_turn-requires-clause-clock
 run_in_turn-requires-clause-clock c =
-    rw c.default_settings.ensures (sum_by-scripts-le c.in-Ok.job _ c.in-Ok.ensures.job.fits (omega arith))
+    rw c.default_settings.ensures (sum_by-scripts-le c.in-Ok.job _ c.in-Ok.ensures.runs.0 (omega arith))
 
 pub returns-in-Err-clause-refused : goal.returns-in-Err-clause-refused
 returns-in-Err-clause-refused c =
-    rw c.from.ensures (refusal_of-explained c.args.text.now c.in-Err.fault c.in-Err.ensures.faults
-    (λ is. c.in-Err.ensures.refused (ap (λ (f : ParseFault). let r : Result Job ParseFault = Err f in r) is)))
+    rw c.from.ensures (refusal_of-explained c.args.text.now c.in-Err.fault
+    (λ line reason is. c.in-Err.ensures.refused line reason (ap (λ (f : ParseFault). let r : Result Job ParseFault = Err f in r) is)))
