@@ -1,9 +1,17 @@
 //! Tests of the program over memory: worked jobs, refusals, failing ends, the greatest texts, and what
-//! standard error is told. And of what it stands on: texts, worked scripts, and rows.
+//! standard error is told. And of what it stands on: texts of jobs, worked scripts, rows, and reports.
 #![tactic(auto)]
 
 #[cfg(test)]
+mod jobs;
+#[cfg(test)]
 mod program;
+#[cfg(test)]
+mod random;
+#[cfg(test)]
+mod refusals;
+#[cfg(test)]
+mod reports;
 #[cfg(test)]
 mod rows;
 #[cfg(test)]
@@ -11,4 +19,4 @@ mod scripts;
 #[cfg(test)]
 mod tests;
 #[cfg(test)]
-mod texts;
+mod written;

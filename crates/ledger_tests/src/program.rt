@@ -33,12 +33,16 @@ fn a_refused_job_is_told_on_standard_error_alone(rt: HostRuntime) -> Result<(), 
     let alloc = rt.alloc();
     let mut words = Vec::new(alloc);
     words.push(String::from_str(alloc, "trace")?)?;
-    let mut source = MemSource::new(Vec::from_slice(alloc, b"jump\n")?, 3, Vec::new(alloc));
+    let mut source = MemSource::new(
+        Vec::from_slice(alloc, b"stm 1\njump\n")?,
+        3,
+        Vec::new(alloc),
+    );
     let mut sink = MemSink::new(alloc, 100, 8, Vec::new(alloc)).expect(&rt, "room");
     let mut errors = MemSink::new(alloc, 100, 8, Vec::new(alloc)).expect(&rt, "room");
     let code = program(alloc, &words, &mut source, &mut sink, &mut errors);
     assert_eq!(rt; code, ExitCode::from(3));
     assert_eq!(rt; sink.bytes(), [].as_slice());
-    assert_eq!(rt; errors.bytes(), b"ledger: line 0: unbuilt\n".as_slice());
+    assert_eq!(rt; errors.bytes(), b"ledger: line 2: word\n".as_slice());
     Ok(())
 }

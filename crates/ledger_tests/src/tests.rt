@@ -1,9 +1,11 @@
 //! What the top call answers and writes.
 ghost use Rattle.std.specs.Prelude.{◌≤◌};
 
+use crate::written::text_of;
 use ledger_host::{HostStatus, host_plain};
 use ledger_model::Reason;
 use std::alloc::{AllocError, Global};
+use std::process::Abort;
 use std::test::Fail;
 use stm_io::{MemSink, MemSource};
 
@@ -86,27 +88,110 @@ fn other_words_are_usage(rt: HostRuntime) -> Result<(), Fail> {
     Ok(())
 }
 
-#[test]
-fn texts_that_are_no_job_are_refused_whole(rt: HostRuntime) -> Result<(), Fail> {
-    let texts: [&[u8]; 5] = [
-        b"",
-        b"stm 1",
-        b"stm 2\n",
-        b"stm 1\njump\n",
-        b"stm 1\n\nworker\n",
-    ];
-    for text in texts {
-        let told = tell(rt.alloc(), "trace", text, 4096)?;
-        assert_eq!(rt;
-            told.status,
-            HostStatus::Script {
-                line: 0,
-                reason: Reason::Unbuilt
-            }
-        );
+// Each text is refused with this line and reason, and nothing is written.
+fn are_refused(rt: &impl Abort, alloc: Global, texts: &[(u64, Reason, &str)]) -> Result<(), Fail> {
+    for (line, reason, lines) in texts {
+        let told = tell(alloc, "trace", &text_of(alloc, lines)?, 4096)?;
+        let refused = HostStatus::Script {
+            line: *line,
+            reason: *reason,
+        };
+        assert_eq!(rt; told.status, refused, "at {lines}");
         assert_eq!(rt; told.report.as_slice(), [].as_slice());
     }
     Ok(())
+}
+
+#[test]
+fn a_text_that_is_no_job_is_refused_by_line_and_reason(rt: HostRuntime) -> Result<(), Fail> {
+    let texts = [
+        (1, Reason::Head, ""),
+        (1, Reason::Head, "stm 2"),
+        (2, Reason::Word, "stm 1 / jump"),
+        (2, Reason::Unbuilt, "stm 1 / maps 1"),
+        (4, Reason::Order, "stm 1 / refs 1 / ref 0 5 / ref 0 6"),
+        (
+            6,
+            Reason::Order,
+            "stm 1 / worker / script / either / print 1 / end / end",
+        ),
+        (3, Reason::Range, "stm 1 / worker / steps 2"),
+        (2, Reason::Range, "stm 1 / refs 65537"),
+        (2, Reason::Byte, "stm 1 / \tworker"),
+        (4, Reason::Unclosed, "stm 1 / worker / script"),
+    ];
+    are_refused(&rt, rt.alloc(), &texts)
+}
+
+#[test]
+fn what_is_read_and_not_run_yet_is_unbuilt_on_its_first_line(rt: HostRuntime) -> Result<(), Fail> {
+    let texts = [
+        (3, Reason::Unbuilt, "stm 1 / worker / steps 1 / steps 1"),
+        (
+            6,
+            Reason::Unbuilt,
+            "stm 1 / # check / worker / script / print 1 / check 1 2 3 / end",
+        ),
+        (
+            4,
+            Reason::Unbuilt,
+            "stm 1 / worker / script / need 1 1 / check 1 1 1 / end",
+        ),
+        (
+            5,
+            Reason::Unbuilt,
+            "stm 1 / refs 2 / worker / script /   move 0 1 1 / end / steps 1",
+        ),
+        (
+            5,
+            Reason::Unbuilt,
+            "stm 1 / worker / script /  / inner r0 / late / end / end / end",
+        ),
+        (
+            4,
+            Reason::Unbuilt,
+            "stm 1 / worker / script / either / inner r0 / end / or / end / end",
+        ),
+        (
+            4,
+            Reason::Unbuilt,
+            "stm 1 / worker / script / late / print 1 / end / end",
+        ),
+        (
+            4,
+            Reason::Unbuilt,
+            "stm 1 / worker / script / hook commit 1 / end / steps 1",
+        ),
+    ];
+    are_refused(&rt, rt.alloc(), &texts)
+}
+
+#[test]
+fn every_other_reason_comes_before_what_is_not_run_yet(rt: HostRuntime) -> Result<(), Fail> {
+    let texts = [
+        (
+            9,
+            Reason::Range,
+            "stm 1 / refs 1 / worker / script / inner r0 / print 1 / end / end / steps 2",
+        ),
+        (
+            7,
+            Reason::Unclosed,
+            "stm 1 / worker / script / late / print 1 / end",
+        ),
+        (
+            4,
+            Reason::Unbuilt,
+            "stm 1 / worker / script / put 0 1 2 / inner r0",
+        ),
+        (
+            5,
+            Reason::Unbuilt,
+            "stm 1 / worker / script / inner r0 / put 0 1 2",
+        ),
+        (4, Reason::Byte, "stm 1 / worker / steps 1 / \t"),
+    ];
+    are_refused(&rt, rt.alloc(), &texts)
 }
 
 #[test]
@@ -168,6 +253,35 @@ fn the_greatest_text_is_done_and_one_byte_more_is_too_long(rt: HostRuntime) -> R
     Ok(())
 }
 
+// These bytes, and so many line feeds behind them.
+fn with_line_feeds(alloc: Global, front: &[u8], count: usize) -> Result<Vec<u8>, AllocError> {
+    let mut text = Vec::from_slice(alloc, front)?;
+    text.extend_from_slice(&b"\n".repeat(alloc, count)?)?;
+    Ok(text)
+}
+
+#[test]
+fn the_greatest_text_of_line_feeds_is_the_empty_job(rt: HostRuntime) -> Result<(), Fail> {
+    let alloc = rt.alloc();
+    let greatest = with_line_feeds(alloc, b"stm 1", 1_048_571)?;
+    assert_eq!(rt; greatest.len(), 1_048_576);
+    let told = tell(alloc, "trace", &greatest, 1 << 20)?;
+    assert_eq!(rt; told.status, HostStatus::Done);
+    assert_eq!(rt;
+        told.report.as_slice(),
+        b"ledger 1\nused 0\ndone 0\n".as_slice()
+    );
+    for (count, line, reason) in [
+        (1_048_576, 1_048_577, Reason::Head),
+        (1_048_577, 0, Reason::Long),
+    ] {
+        let feeds = with_line_feeds(alloc, b"", count)?;
+        let told = tell(alloc, "trace", &feeds, 1 << 20)?;
+        assert_eq!(rt; told.status, HostStatus::Script { line, reason });
+    }
+    Ok(())
+}
+
 // So many workers with so many empty scripts each.
 fn empty_scripts(alloc: Global, workers: usize, scripts: usize) -> Result<Vec<u8>, AllocError> {
     let mut text = Vec::from_slice(alloc, b"stm 1\n")?;
@@ -193,16 +307,11 @@ fn the_most_workers_and_scripts_are_done(rt: HostRuntime) -> Result<(), Fail> {
         told.report
             .ends_with(b"\n0 r 16.4096 ok\nused 0\ndone 65536\n")
     );
-    for (workers, scripts) in [(17, 1), (1, 4097)] {
+    for (workers, scripts, line) in [(17, 1, 50), (1, 4097, 8195)] {
         let more = empty_scripts(rt.alloc(), workers, scripts)?;
         let told = tell(rt.alloc(), "trace", &more, 1 << 20)?;
-        assert_eq!(rt;
-            told.status,
-            HostStatus::Script {
-                line: 0,
-                reason: Reason::Unbuilt
-            }
-        );
+        let reason = Reason::Many;
+        assert_eq!(rt; told.status, HostStatus::Script { line, reason });
     }
     Ok(())
 }
