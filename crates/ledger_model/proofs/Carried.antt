@@ -1,5 +1,5 @@
 -- A relation between moments that each single change carries on is carried on by every statement and every block.
-use Rattle.std.proofs.Common.{◌≡◌, ◌≤◌, ◌<◌, ◌+◌, ◌-◌, ◌^◌, ℕ, Bool, true, false, if◌then◌else◌, List, [], ◌∷◌, map, is_some, nat_lt, nat_eq, refl, ap, sym, subst, ◌∙◌, arith}
+use Rattle.std.proofs.Common.{◌≡◌, ◌≤◌, ◌<◌, ◌+◌, ◌-◌, ◌^◌, ℕ, Bool, true, false, if◌then◌else◌, List, [], ◌∷◌, map, is_some, nat_lt, nat_eq, refl, ap, sym, subst, arith}
 use Rattle.std.specs.Prelude.{sum, sum_by}
 use Rattle.std.proofs.lemmas.List.Sums.{sum_by-cons}
 use Rattle.stm_model.specs.declared.cause.HookPhase.{HookPhase}
@@ -10,7 +10,7 @@ use Rattle.ledger_model.specs.declared.script.Statement.TheViews.{roll-Statement
 use Rattle.ledger_model.specs.declared.script.Statement.TheFolds.{map-Statement, fold-Statement, fold-roll-Statement, ind-Statement}
 use Rattle.ledger_model.specs.Maps.{delete_pair, path_allowance, put_pair, value_at}
 use Rattle.ledger_model.specs.Run.{State, Outcome, Meaning, End, Kept, Failed, Retried, Known, kept, and_then, in_turn, nested, undone_unless_kept, undone, caught, or_else, either, move, moved_into, put, delete, share, value_of, ref_at, map_at, set_register, set_ref, set_map, set_slot, printed, registered, registered_late, allowed, step, known, meaning, run_block, count_step, statement_count}
-use Rattle.ledger_model.proofs.Meaning.{itself-known, meaning-roll}
+use Rattle.ledger_model.proofs.Meaning.{itself_all, meaning-roll}
 
 -- Each single change keeps R, which has a count of the statements that lie between the two moments.
 pub record Carried (R : ℕ → State → State → Type 0) : Type 0 where
@@ -31,29 +31,23 @@ pub record Carried (R : ℕ → State → State → Type 0) : Type 0 where
 
 -- ---- how many statements there are, layer by layer
 
-abbrev size : Statement → ℕ
+abbrev pub size : Statement → ℕ
 size m = fold-Statement ℕ count_step m
 
-sum_map : (block : List Statement) → sum (map size block) ≡ statement_count block
+pub sum_map : (block : List Statement) → sum (map size block) ≡ statement_count block
 sum_map [] = refl
 sum_map (m ∷ block) =
     let a = sum_by-cons (λ (n : ℕ). n) (size m) (map size block) in
     let b = sum_by-cons size m block in
     let c = sum_map block in omega (arith, a, b, c)
 
-sum_parts : (parts : List (List Statement)) → sum_by sum (map (map size) parts) ≡ sum_by statement_count parts
+pub sum_parts : (parts : List (List Statement)) → sum_by sum (map (map size) parts) ≡ sum_by statement_count parts
 sum_parts [] = refl
 sum_parts (part ∷ parts) =
     let a = sum_by-cons sum (map size part) (map (map size) parts) in
     let b = sum_by-cons statement_count part parts in
     let c = sum_parts parts in
     let d = sum_map part in omega (arith, a, b, c, d)
-
-pub itself_all : (block : List Statement) → map (λ part. part.itself) (map known block) ≡ block
-itself_all [] = refl
-itself_all (m ∷ block) =
-    ap (λ (k : Statement). k ∷ map (λ part. part.itself) (map known block)) (itself-known m)
-    ∙ ap (λ (ks : List Statement). m ∷ ks) (itself_all block)
 
 module _ (R : ℕ → State → State → Type 0) (rule : Carried R) where
   -- ---- parts

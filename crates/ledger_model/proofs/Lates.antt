@@ -15,7 +15,7 @@ use Rattle.ledger_model.proofs.Carried as carried
 -- ---- what is still to run
 
 -- the statements of all bodies that wait, and one more for each body
-waiting : List (List Statement) → ℕ
+unfoldable pub waiting : List (List Statement) → ℕ
 waiting [] = 0
 waiting (body ∷ bodies) = 1 + statement_count body + waiting bodies
 

@@ -15,13 +15,12 @@ use Rattle.ledger_model.specs.declared.listing.Row.{Row}
 use Rattle.ledger_model.specs.Contents.{opened, opening_contents}
 use Rattle.ledger_model.specs.Replays.{after_writers, block_of, contents_after, left_by, scripts_of, writers_of}
 use Rattle.ledger_model.specs.Words.{ArePairsOfWords, HoldsWords, IsWord, RunsOnWords}
-use Rattle.ledger_model.proofs.Carried.{itself_all}
 use Rattle.ledger_model.proofs.MapLemmas.{All-at, All-replicate, All-set}
-use Rattle.ledger_model.proofs.Meaning.{meaning-roll}
+use Rattle.ledger_model.proofs.Meaning.{itself_all, meaning-roll}
 use Rattle.ledger_model.proofs.Moments.{Moment, FitsLate, both, below, code_word, nests_inside, put_words, delete_words, found_word, register, ref, pairs, slot, allow, print, hook, late, back, value, ref_word, map_words, slot_words}
 
 -- a code is a word
-EndFits : End → Type 0
+unfoldable pub EndFits : End → Type 0
 EndFits Kept = Unit {0}
 EndFits (Failed code) = IsWord code
 EndFits Retried = Unit {0}

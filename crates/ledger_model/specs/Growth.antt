@@ -42,3 +42,10 @@ MapsAscend contents = AllByRecursion KeysAscend contents.maps × AllByRecursion 
 -- how many numbers were ever printed, totals noted, handlers registered, and handlers run at undone blocks
 abbrev pub recorded : State → ℕ
 recorded s = length s.trail + length s.totals + length s.hooks + length s.runs
+
+-- The maps, the slots and the blocks in use are the same, and no operation on maps drew anything.
+pub record LeavesMaps (before after : State) : Type 0 where
+  pub totals : after.totals ≡ before.totals
+  pub maps : after.contents.maps ≡ before.contents.maps
+  pub slots : after.contents.slots ≡ before.contents.slots
+  pub used : after.contents.used ≡ before.contents.used

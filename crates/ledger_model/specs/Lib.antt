@@ -1,6 +1,8 @@
+pub mod Allowed
 pub mod Contents
 pub mod Fits
 pub mod Growth
+pub mod Heard
 pub mod Limits
 pub mod Maps
 pub mod Order
@@ -9,7 +11,7 @@ pub mod Report
 pub mod Reported
 pub mod Run
 pub mod Settle
-pub mod Straight
-pub mod Turns
+pub mod Talk
+pub mod Traced
 pub mod Words
 pub mod Worked

@@ -1,19 +1,25 @@
 -- A listing tells what running a job's scripts alone gives, one after another in the listing's order.
-use Rattle.std.specs.Prelude.{◌≡◌, ℕ, ◌+◌, ◌-◌, ◌≤◌, nat_eq, IsTrue, MatchBool, List, [], ◌∷◌, length, map, filter, take, slice_index_or}
+use Rattle.std.specs.Prelude.{◌≡◌, ℕ, suc, ◌+◌, ◌-◌, ◌<◌, ◌≤◌, nat_eq, if◌then◌else◌, not, IsTrue, MatchBool, List, [], ◌∷◌, ◌++◌, length, map, filter, take, slice_index_or}
 use Rattle.std.specs.List.{AllByRecursion, range_with_len}
+use Rattle.stm_model.specs.Evidence.{Evidence}
+use Rattle.stm_model.specs.Pairs.{KeysAscend}
+use Rattle.stm_model.specs.Telling.{Extends}
+use Rattle.stm_model.specs.declared.cause.Cause.TheVariants.{Retry}
 use Rattle.stm_model.specs.declared.settings.Settings.{Settings}
 use Rattle.ledger_model.specs.declared.job.Contents.{Contents}
 use Rattle.ledger_model.specs.declared.job.Job.{Job}
 use Rattle.ledger_model.specs.declared.listing.Listing.{Listing}
+use Rattle.ledger_model.specs.declared.listing.Rolled.{Rolled}
 use Rattle.ledger_model.specs.declared.listing.Row.{Row}
 use Rattle.ledger_model.specs.declared.listing.RowResult.{RowResult}
-use Rattle.ledger_model.specs.declared.listing.RowResult.TheVariants.{Done}
+use Rattle.ledger_model.specs.declared.listing.RowResult.TheVariants.{Done, Fail, Spent, Full}
 use Rattle.ledger_model.specs.declared.script.Script.{Script}
 use Rattle.ledger_model.specs.declared.script.Statement.{Statement}
 use Rattle.ledger_model.specs.Contents.{opening_contents, blocks_of}
 use Rattle.ledger_model.specs.Order.{stands_before}
-use Rattle.ledger_model.specs.Run.{Outcome, run, allowance}
-use Rattle.ledger_model.specs.Settle.{Settled, Commits, OnlyReads, settle, handler_runs}
+use Rattle.ledger_model.specs.Report.{has_text}
+use Rattle.ledger_model.specs.Run.{Outcome, Retried, run, allowance}
+use Rattle.ledger_model.specs.Settle.{Settled, Commits, Fails, OnlyReads, Spends, settle, handler_runs}
 
 -- ---- scripts by name: workers and their scripts count from 1
 
@@ -34,6 +40,12 @@ pub record NamesScript (job : Job) (worker number : ℕ) : Type 0 where
 
 abbrev pub writers_of : List Row → List Row
 writers_of rows = filter (λ row. row.writer) rows
+
+abbrev pub others_of : List Row → List Row
+others_of rows = filter (λ row. not row.writer) rows
+
+abbrev pub writer_count : List Row → ℕ
+writer_count rows = length (writers_of rows)
 
 -- what a script does, run alone on these contents
 abbrev pub run_of : Job → ℕ → ℕ → Contents → Outcome
@@ -68,18 +80,17 @@ pub record TellsWriter (job : Job) (settings : Settings) (rows : List Row) (row 
       Tells settings row outcome (row.position - 1) Commits outcome.after.prints
   pub drawn : row.drawn ≤ allowance (run_of job row.worker row.number (contents_after job rows (row.position - 1))).after
 
--- What a script that wrote nothing was settled as. So far it only reads.
+-- What a script that committed no write was settled as: it only read, it failed, or the clock was at its limit. So far none finds the blocks used up.
 abbrev pub TellsResult : RowResult → Settings → Row → Outcome → Type 0
 TellsResult Done settings row outcome = Tells settings row outcome row.position OnlyReads outcome.after.prints
-TellsResult _ settings row outcome = ⊥
+TellsResult (Fail code) settings row outcome = Tells settings row outcome row.position (Fails code) []
+TellsResult Spent settings row outcome = Tells settings row outcome row.position Spends []
+TellsResult (Full used allowance) settings row outcome = ⊥
 
 -- any other script, on what the writers up to its position left
 pub record TellsReader (job : Job) (settings : Settings) (rows : List Row) (row : Row) : Type 0 where
   pub tells : TellsResult row.result settings row (run_of job row.worker row.number (contents_after job rows row.position))
   pub drawn : row.drawn ≡ 0
-
-abbrev pub TellsRow : Job → Settings → List Row → Row → Type 0
-TellsRow job settings rows row = MatchBool row.writer (TellsWriter job settings rows row) (TellsReader job settings rows row)
 
 -- ---- how the rows stand
 
@@ -88,27 +99,126 @@ abbrev pub InOrder : List Row → Type 0
 InOrder [] = Unit {0}
 InOrder (row ∷ rows) = AllByRecursion (λ later. IsTrue (stands_before row later)) rows × InOrder rows
 
+-- The writers' positions count up from 1, and no other position is past the last writer's.
+pub record AreStamped (rows : List Row) : Type 0 where
+  pub writers : map (λ row. row.position) (writers_of rows) ≡ range_with_len 1 (writer_count rows)
+  pub others : AllByRecursion (λ row. row.position ≤ writer_count rows) (others_of rows)
+
 abbrev pub rows_of : ℕ → List Row → List Row
 rows_of worker rows = filter (λ row. nat_eq row.worker worker) rows
 
--- the worker's rows count up from its first script, one row each, and no script is left
-pub record ListsScripts (job : Job) (rows : List Row) (worker : ℕ) : Type 0 where
-  pub numbered : map (λ row. row.number) (rows_of worker rows) ≡ range_with_len 1 (length (rows_of worker rows))
-  pub all : length (rows_of worker rows) ≡ length (scripts_of job worker)
+-- how many of its scripts are settled
+abbrev pub settled_by : List Row → ℕ → ℕ
+settled_by rows worker = length (rows_of worker rows)
+
+-- ---- which scripts are listed
+
+abbrev pub names_of : ℕ → List (ℕ × ℕ) → List (ℕ × ℕ)
+names_of worker names = filter (λ name. nat_eq name.0 worker) names
+
+-- the first script that isn't settled, where one is left
+abbrev pub left_of : Job → List Row → ℕ → List (ℕ × ℕ)
+left_of job rows worker =
+    if nat_eq (settled_by rows worker) (length (scripts_of job worker)) then [] else (worker, suc (settled_by rows worker)) ∷ []
+
+-- The worker's rows count up from its first script, one row each. Where a script is left, the first of them is blocked or worn, and none else.
+pub record ListsScripts (job : Job) (listing : Listing) (worker : ℕ) : Type 0 where
+  pub numbered : map (λ row. row.number) (rows_of worker listing.rows) ≡ range_with_len 1 (settled_by listing.rows worker)
+  pub left : names_of worker (listing.blocked ++ listing.worn) ≡ left_of job listing.rows worker
+
+-- All that is listed are scripts of the job, each worker's in order. Who is blocked or worn is listed once, in order of worker.
+pub record ListsJob (job : Job) (listing : Listing) : Type 0 where
+  pub rows : AllByRecursion (λ row. NamesScript job row.worker row.number) listing.rows
+  pub rolled : AllByRecursion (λ rolled. NamesScript job rolled.worker rolled.number) listing.rolled
+  pub blocked : AllByRecursion (λ name. NamesScript job name.0 name.1) listing.blocked
+  pub worn : AllByRecursion (λ name. NamesScript job name.0 name.1) listing.worn
+  pub workers : (worker : ℕ) → 1 ≤ worker → worker ≤ length job.workers → ListsScripts job listing worker
+  pub blocked_ascend : KeysAscend listing.blocked
+  pub worn_ascend : KeysAscend listing.worn
+
+-- ---- attempts that were rolled back
+
+abbrev pub rolled_of : ℕ → List Rolled → List Rolled
+rolled_of worker rolled = filter (λ line. nat_eq line.worker worker) rolled
+
+-- Of two attempts the first may stand before the second: its worker is no later, and of one worker neither scripts nor prefixes fall.
+pub record MayPrecede (first second : Rolled) : Type 0 where
+  pub worker : first.worker ≤ second.worker
+  pub number : first.worker ≡ second.worker → first.number ≤ second.number
+  pub prefix : first.worker ≡ second.worker → first.prefix ≤ second.prefix
+
+-- an attempt at this prefix came before the row: it is no later, and before a writer it is earlier
+abbrev pub ComesBefore : ℕ → Row → Type 0
+ComesBefore prefix row = MatchBool row.writer (prefix < row.position) (prefix ≤ row.position)
+
+-- Its script is settled or the next one, its prefix is one of the job's, and it lies between the row of the script before and that of its own.
+pub record IsPlaced (rows : List Row) (rolled : Rolled) : Type 0 where
+  pub number : rolled.number ≤ suc (settled_by rows rolled.worker)
+  pub prefix : rolled.prefix ≤ writer_count rows
+  pub behind : AllByRecursion (λ row. suc row.number ≡ rolled.number → row.position ≤ rolled.prefix) (rows_of rolled.worker rows)
+  pub before : AllByRecursion (λ row. row.number ≡ rolled.number → ComesBefore rolled.prefix row) (rows_of rolled.worker rows)
+
+-- each attempt may stand before those behind it
+abbrev pub PrecedeEach : List Rolled → Type 0
+PrecedeEach [] = Unit {0}
+PrecedeEach (rolled ∷ lines) = AllByRecursion (MayPrecede rolled) lines × PrecedeEach lines
+
+-- The attempts stand by worker, each one's in order, and each at its place.
+pub record ArePlaced (listing : Listing) : Type 0 where
+  pub in_order : PrecedeEach listing.rolled
+  pub placed : AllByRecursion (IsPlaced listing.rows) listing.rolled
+
+-- Who asked for a retry ran up to its end, and retries there.
+pub record HasRetried (rolled : Rolled) (outcome : Outcome) : Type 0 where
+  pub retries : outcome.end ≡ Retried
+  pub whole : rolled.trail ≡ outcome.after.trail
+
+-- What it printed is how its script begins on what the writers up to its prefix left, and its cause shows what it has to. Who works alone is rolled back by a retry alone.
+pub record TellsRolled (job : Job) (settings : Settings) (rows : List Row) (rolled : Rolled) : Type 0 where
+  pub trail : Extends rolled.trail (run_of job rolled.worker rolled.number (contents_after job rows rolled.prefix)).after.trail
+  pub cause : IsTrue (has_text rolled.cause)
+  pub evidence : Evidence rolled.worker settings rolled.cause
+  pub retry : rolled.cause ≡ Retry → HasRetried rolled (run_of job rolled.worker rolled.number (contents_after job rows rolled.prefix))
+  pub alone : length job.workers ≡ 1 → rolled.cause ≡ Retry
+
+-- ---- what is left
+
+-- the list ends with this
+pub record IsLast {T : Type 0} (entry : T) (list : List T) : Type 0 where
+  pub front : List T
+  pub whole : list ≡ front ++ entry ∷ []
+
+-- The script retries on what all writers left, and its worker's last attempt asked for that retry there.
+pub record IsBlocked (job : Job) (listing : Listing) (name : ℕ × ℕ) : Type 0 where
+  pub retries : (run_of job name.0 name.1 (contents_after job listing.rows (writer_count listing.rows))).end ≡ Retried
+  pub rolled : Rolled
+  pub last : IsLast rolled (rolled_of name.0 listing.rolled)
+  pub number : rolled.number ≡ name.1
+  pub cause : rolled.cause ≡ Retry
+  pub prefix : rolled.prefix ≡ writer_count listing.rows
+
+-- how many attempts of the worker are listed
+abbrev pub attempts_of : Listing → ℕ → ℕ
+attempts_of listing worker = settled_by listing.rows worker + length (rolled_of worker listing.rolled)
+
+-- No worker has more attempts than it may make, and one that is worn has made them all.
+pub record CountsAttempts (settings : Settings) (listing : Listing) : Type 0 where
+  pub most : (worker : ℕ) → attempts_of listing worker ≤ settings.attempts
+  pub worn : AllByRecursion (λ name. attempts_of listing name.0 ≡ settings.attempts) listing.worn
 
 -- ---- the whole
 
--- Running the listed scripts alone, in the listed order, gives the listing. So far no attempt is rolled back and every script is done.
+-- Running the listed scripts alone, in the listed order, gives the listing.
 pub record Replays (job : Job) (settings : Settings) (listing : Listing) : Type 0 where
   pub in_order : InOrder listing.rows
-  pub stamps : map (λ row. row.position) (writers_of listing.rows) ≡ range_with_len 1 (length (writers_of listing.rows))
-  pub positions : AllByRecursion (λ row. row.position ≤ length (writers_of listing.rows)) listing.rows
-  pub named : AllByRecursion (λ row. NamesScript job row.worker row.number) listing.rows
-  pub complete : (worker : ℕ) → 1 ≤ worker → worker ≤ length job.workers → ListsScripts job listing.rows worker
-  pub rows : AllByRecursion (TellsRow job settings listing.rows) listing.rows
-  pub rolled : listing.rolled ≡ []
-  pub blocked : listing.blocked ≡ []
-  pub worn : listing.worn ≡ []
-  pub contents : listing.contents ≡ contents_after job listing.rows (length (writers_of listing.rows))
+  pub stamped : AreStamped listing.rows
+  pub listed : ListsJob job listing
+  pub writers : AllByRecursion (TellsWriter job settings listing.rows) (writers_of listing.rows)
+  pub others : AllByRecursion (TellsReader job settings listing.rows) (others_of listing.rows)
   -- no more blocks are ever in use than there are
   pub used : (n : ℕ) → (contents_after job listing.rows n).used ≤ blocks_of job
+  pub placed : ArePlaced listing
+  pub rolled : AllByRecursion (TellsRolled job settings listing.rows) listing.rolled
+  pub blocked : AllByRecursion (IsBlocked job listing) listing.blocked
+  pub attempts : CountsAttempts settings listing
+  pub contents : listing.contents ≡ contents_after job listing.rows (writer_count listing.rows)

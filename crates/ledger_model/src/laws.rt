@@ -1,11 +1,12 @@
 //! The laws of running, and worked hashes. Each function does nothing: its clauses are theorems.
-ghost use Rattle.std.specs.Prelude.{◌≡◌, ◌≢◌, ◌≤◌, ◌/◌, ◌%◌, ℕ, false, List, [], ◌∷◌, ◌++◌, length, map, Some, None};
+ghost use Rattle.std.specs.Prelude.{◌≡◌, ◌≢◌, ◌≤◌, ◌/◌, ◌%◌, ◌^◌, ℕ, false, List, [], ◌∷◌, ◌++◌, length, map, Some, None};
 ghost use Rattle.stm_model.specs.declared.cause.HookPhase.{HookPhase};
 ghost use Rattle.stm_model.specs.Handlers.{undoing};
 ghost use Rattle.stm_model.specs.Pairs.{KeysAscend};
 ghost use Rattle.stm_model.specs.Telling.{Extends};
 ghost use Rattle.ledger_model.specs.Fits.{JobFits, Places, ScriptFits};
-ghost use Rattle.ledger_model.specs.Growth.{Grows, MapsAscend, Rises, SameSizes, SameUnlessWritten, recorded};
+ghost use Rattle.ledger_model.specs.Growth.{Grows, LeavesMaps, MapsAscend, Rises, SameSizes, SameUnlessWritten, recorded};
+ghost use Rattle.ledger_model.specs.Heard.{Hearing, hear, heard_run, hearing_start};
 ghost use Rattle.ledger_model.specs.Maps.{delete_pair, hash, put_pair, value_at};
 ghost use Rattle.ledger_model.specs.declared.job.Contents.{Contents};
 ghost use Rattle.ledger_model.specs.Replays.{contents_after};
@@ -18,6 +19,7 @@ ghost use Rattle.ledger_model.specs.declared.script.Statement.TheFolds.{map-Stat
 ghost use Rattle.ledger_model.specs.Words.{HoldsWords, RunsOnWords};
 ghost use Rattle.ledger_model.specs.declared.script.Script.{Script};
 ghost use Rattle.ledger_model.specs.Run.{Kept, Known, State, and_then, known, late_bodies, meaning, run, run_block, start, statement_count, step, undone};
+ghost use Rattle.ledger_model.specs.Talk.{Talk, talk};
 
 /// A statement does what its step says, with what each statement inside it does in that one's
 /// place; and a statement inside a before-commit body is kept as it is.
@@ -95,6 +97,25 @@ pub fn all_numbers_are_words()
         ScriptFits there script → HoldsWords contents → RunsOnWords (run script.block contents).after }
     ensures listed { (job : Job) (rows : List Row) (n : ℕ) →
         JobFits job → HoldsWords (contents_after job rows n) }
+{}
+
+/// Without maps and slots, what a script of at most 2^32 statements asks is its run: heard on plain
+/// contents it ends as the run does and leaves what the run leaves, and no block stays open. Such a run
+/// draws nothing.
+pub fn what_a_script_asks_is_its_run()
+    ensures heard { (there : Places) (script : Script) (contents : Contents) →
+        there.maps ≡ 0 → there.snaps ≡ 0 → ScriptFits there script → statement_count script.block ≤ 2 ^ 32 →
+        hear (talk script.block) (hearing_start contents) ≡ heard_run [] (run script.block contents) }
+    ensures maps { (there : Places) (script : Script) (contents : Contents) →
+        there.maps ≡ 0 → there.snaps ≡ 0 → ScriptFits there script →
+        LeavesMaps (start contents) (run script.block contents).after }
+{}
+
+/// From any moment of any talk, what was printed and which handlers ran at undone blocks stays in front
+/// of what comes later.
+pub fn what_is_heard_stays_in_front()
+    ensures trail { (talk : Talk) (h : Hearing) → Extends h.trail (hear talk h).after.trail }
+    ensures runs { (talk : Talk) (h : Hearing) → Extends h.runs (hear talk h).after.runs }
 {}
 
 /// A key has the value that it was given, and none once it was removed. All other keys have what they

@@ -7,6 +7,7 @@ mod listing;
 mod reason;
 mod rows;
 mod script;
+pub mod talks;
 pub mod worked;
 
 pub use job::{Contents, Job, Openings, PairLists, Scripts, Steps, Workers};
