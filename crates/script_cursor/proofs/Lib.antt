@@ -1,0 +1,5 @@
+pub mod ComesLemmas
+pub mod LateLemmas
+pub mod NextLemmas
+pub mod Spoken
+pub mod WorkLemmas
