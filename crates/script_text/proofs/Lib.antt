@@ -1,9 +1,9 @@
 pub mod CleanLine
-pub mod FirstWords
 pub mod FollowingLines
 pub mod Follows
 pub mod GoingOn
 pub mod JobsAgain
+pub mod LineCounts
 pub mod PlacedLines
 pub mod PlacedRows
 pub mod Placing
@@ -13,7 +13,6 @@ pub mod SimpleStatements
 pub mod SpelledLines
 pub mod SpelledWords
 pub mod StatementsAgain
-pub mod StraightTexts
 pub mod Taking
 pub mod ThreeWords
 pub mod WholeForm

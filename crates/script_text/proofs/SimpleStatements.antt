@@ -11,7 +11,6 @@ use Rattle.ledger_model.specs.declared.script.Statement.TheViews.{roll-Statement
 use Rattle.ledger_model.specs.declared.script.Statement.TheFolds.{fold-Statement, fold-roll-Statement, map-Statement}
 use Rattle.ledger_model.specs.Fits.{Places, fits, fits_step}
 use Rattle.ledger_model.specs.Report.{phase_word}
-use Rattle.ledger_model.specs.Straight.{is_straight, straight_step}
 use Rattle.script_text.specs.Printing.{register_word, operand_word, statement_lines, statement_step}
 
 pub data Simple : Type 0 where
@@ -123,6 +122,3 @@ simple_fits_is p s left = ap (λ (f : ℕ → Bool). f left) (folds (fits_step p
   at (need x y) = refl
   at (move a b x) = refl
   at (hook phase token) = refl
-
-pub simple_straight : (s : Simple) → is_straight (made_of s) ≡ straight_step (layer_of s)
-simple_straight s = folds straight_step s

@@ -8,7 +8,6 @@ use Rattle.text_lines.specs.Lines.{Row}
 use Rattle.text_lines.specs.Numbers.{plain_word}
 use Rattle.text_lines.proofs.Lists.{both as parts, and_true}
 use Rattle.ledger_model.specs.Fits.{Places, fits}
-use Rattle.ledger_model.specs.Straight.{is_straight, straight_step}
 use Rattle.ledger_model.specs.declared.script.Statement.{Statement}
 use Rattle.ledger_model.specs.declared.script.Statement.TheVariants as made
 use Rattle.script_text.specs.declared.keyword.Keyword.{Keyword}
@@ -20,7 +19,7 @@ use Rattle.script_text.specs.Line.{one, two, three, workers_of, statement_of}
 use Rattle.script_text.specs.Printing.{register_word, opening_line, header_lines, steps_line, head_line, end_line, statement_lines}
 use Rattle.script_text.specs.Form.{spelled}
 use Rattle.script_text.proofs.SpelledWords.{Way, bind_ok, ok_same, both_ok, one_ok, two_ok, three_ok, number_way, below_way, register_way, operand_way, code_way, phase_way, from_one_way, true_le}
-use Rattle.script_text.proofs.SimpleStatements.{Simple, made_of, layer_of, row_of, simple_lines, simple_fits, simple_fits_is, simple_straight}
+use Rattle.script_text.proofs.SimpleStatements.{Simple, made_of, layer_of, row_of, simple_lines, simple_fits, simple_fits_is}
 use Rattle.script_text.proofs.SimpleStatements as stmt
 
 -- ---- words, each read in its own way
@@ -119,61 +118,49 @@ line_rows (says.Plain m) = statement_lines m
 abbrev pub only : ℕ → Places
 only refs = record { refs = refs; maps = 0; snaps = 0 }
 
--- the keywords of straight statements
-abbrev pub is_straight_word : Keyword → Bool
-is_straight_word key.Const = true
-is_straight_word key.Read = true
-is_straight_word key.Write = true
-is_straight_word key.Add = true
-is_straight_word key.Sub = true
-is_straight_word key.Print = true
-is_straight_word _ = false
-
 pub record Stated (refs : ℕ) (k : Keyword) (args : Row) (m : Statement) : Type 0 where
   pub row : (keyword_word k ∷ map plain_word args) ∷ [] ≡ statement_lines m
   pub fits : (left : ℕ) → fits (only refs) m left ≡ true
-  pub straight : is_straight m ≡ is_straight_word k
 
 stated : (refs : ℕ) (s : Simple) (k : Keyword) (args : Row) (m : Statement) → made_of s ≡ m → keyword_word k ∷ map plain_word args ≡ row_of s
-    → simple_fits (only refs) s ≡ true → straight_step (layer_of s) ≡ is_straight_word k → Stated refs k args m
-stated refs s k args m e p f t =
+    → simple_fits (only refs) s ≡ true → Stated refs k args m
+stated refs s k args m e p f =
     subst (Stated refs k args) e (record {
       row = ap (λ (row : Row). row ∷ []) p ∙ sym (simple_lines s);
       fits = λ left. simple_fits_is (only refs) s left ∙ f;
-      straight = simple_straight s ∙ t;
     })
 
 pub statement_says : (refs : ℕ) (k : Keyword) (args : Row) (m : Statement) → statement_of refs k args ≡ Ok m → Stated refs k args m
 statement_says refs key.Const args m h =
     let t = two_says register_way number_way made.Const args m h in
-    stated refs (stmt.const t.x t.y) key.Const args m t.is (ap (λ (more : Row). codes "const" ∷ more) t.plain) t.fits refl
+    stated refs (stmt.const t.x t.y) key.Const args m t.is (ap (λ (more : Row). codes "const" ∷ more) t.plain) t.fits
 statement_says refs key.Read args m h =
     let t = two_says register_way (below_way refs) made.Read args m h in
-    stated refs (stmt.read t.x t.y) key.Read args m t.is (ap (λ (more : Row). codes "read" ∷ more) t.plain) t.fits refl
+    stated refs (stmt.read t.x t.y) key.Read args m t.is (ap (λ (more : Row). codes "read" ∷ more) t.plain) t.fits
 statement_says refs key.Write args m h =
     let t = two_says (below_way refs) operand_way made.Write args m h in
-    stated refs (stmt.write t.x t.y) key.Write args m t.is (ap (λ (more : Row). codes "write" ∷ more) t.plain) t.fits refl
+    stated refs (stmt.write t.x t.y) key.Write args m t.is (ap (λ (more : Row). codes "write" ∷ more) t.plain) t.fits
 statement_says refs key.Add args m h =
     let t = two_says register_way operand_way made.Add args m h in
-    stated refs (stmt.add t.x t.y) key.Add args m t.is (ap (λ (more : Row). codes "add" ∷ more) t.plain) t.fits refl
+    stated refs (stmt.add t.x t.y) key.Add args m t.is (ap (λ (more : Row). codes "add" ∷ more) t.plain) t.fits
 statement_says refs key.Sub args m h =
     let t = two_says register_way operand_way made.Sub args m h in
-    stated refs (stmt.sub t.x t.y) key.Sub args m t.is (ap (λ (more : Row). codes "sub" ∷ more) t.plain) t.fits refl
+    stated refs (stmt.sub t.x t.y) key.Sub args m t.is (ap (λ (more : Row). codes "sub" ∷ more) t.plain) t.fits
 statement_says refs key.Print args m h =
     let t = one_says operand_way made.Print args m h in
-    stated refs (stmt.print t.x) key.Print args m t.is (ap (λ (more : Row). codes "print" ∷ more) t.plain) t.fits refl
+    stated refs (stmt.print t.x) key.Print args m t.is (ap (λ (more : Row). codes "print" ∷ more) t.plain) t.fits
 statement_says refs key.Check args m h =
     let t = three_says operand_way operand_way code_way made.Check args m h in
-    stated refs (stmt.check t.x t.y t.v) key.Check args m t.is (ap (λ (more : Row). codes "check" ∷ more) t.plain) t.fits refl
+    stated refs (stmt.check t.x t.y t.v) key.Check args m t.is (ap (λ (more : Row). codes "check" ∷ more) t.plain) t.fits
 statement_says refs key.Need args m h =
     let t = two_says operand_way operand_way made.Need args m h in
-    stated refs (stmt.need t.x t.y) key.Need args m t.is (ap (λ (more : Row). codes "need" ∷ more) t.plain) t.fits refl
+    stated refs (stmt.need t.x t.y) key.Need args m t.is (ap (λ (more : Row). codes "need" ∷ more) t.plain) t.fits
 statement_says refs key.Move args m h =
     let t = three_says (below_way refs) (below_way refs) operand_way made.Move args m h in
-    stated refs (stmt.move t.x t.y t.v) key.Move args m t.is (ap (λ (more : Row). codes "move" ∷ more) t.plain) t.fits refl
+    stated refs (stmt.move t.x t.y t.v) key.Move args m t.is (ap (λ (more : Row). codes "move" ∷ more) t.plain) t.fits
 statement_says refs key.Hook args m h =
     let t = two_says phase_way number_way made.Hook args m h in
-    stated refs (stmt.hook t.x t.y) key.Hook args m t.is (ap (λ (more : Row). codes "hook" ∷ more) t.plain) t.fits refl
+    stated refs (stmt.hook t.x t.y) key.Hook args m t.is (ap (λ (more : Row). codes "hook" ∷ more) t.plain) t.fits
 statement_says refs _ args m h = cc
 
 -- ---- a zero at the end of a row

@@ -1,4 +1,3 @@
-pub mod Finding
 pub mod Form
 pub mod Frames
 pub mod Given

@@ -1,5 +1,5 @@
 -- Private: what the lines so far have said, as the reader keeps it, in the terms of the definition.
-use Rattle.std.specs.Prelude.{ℕ, ◌≡◌, ⊤, ◌+◌, Bool, true, false, not, ◌&&◌, ◌||◌, bytes_eq, nat_eq, nat_le, nat_lt, if◌then◌else◌, List, [], ◌∷◌, ◌++◌, map, length, Option, Some, None, unwrap_or, Result, Ok, Err}
+use Rattle.std.specs.Prelude.{ℕ, ◌≡◌, ⊤, ◌+◌, Bool, true, not, ◌&&◌, nat_eq, nat_le, nat_lt, if◌then◌else◌, List, [], ◌∷◌, ◌++◌, map, length, Option, Some, None, unwrap_or, Result, Ok, Err}
 use Rattle.text_lines.specs.Lines.{Row}
 use Rattle.ledger_model.specs.declared.job.Job.{Job}
 use Rattle.ledger_model.specs.declared.reason.Reason.{Reason}
@@ -10,7 +10,6 @@ use Rattle.ledger_model.specs.declared.script.Statement.{Statement}
 use Rattle.ledger_model.specs.declared.script.Statement.TheVariants as made
 use Rattle.script_text.specs.declared.fault.ParseFault.{ParseFault}
 use Rattle.script_text.specs.declared.fault.ParseFault.TheVariants as parsing
-use Rattle.script_text.specs.declared.keyword.Keyword.{Keyword}
 use Rattle.script_text.specs.declared.frames.Begun.{Begun}
 use Rattle.script_text.specs.declared.frames.Begun.TheVariants as begun
 use Rattle.script_text.specs.declared.line.Line.{Line}
@@ -18,7 +17,7 @@ use Rattle.script_text.specs.declared.line.Line.TheVariants as says
 use Rattle.script_text.specs.declared.section.Section.{Section}
 use Rattle.script_text.specs.declared.section.Section.TheVariants as section
 use Rattle.script_text.specs.declared.reader.Reader.{Reader}
-use Rattle.script_text.specs.Words.{◌>>=◌, keyword_word}
+use Rattle.script_text.specs.Words.{◌>>=◌}
 use Rattle.script_text.specs.Standing.{Standing, after, in_script, in_part, rank}
 use Rattle.script_text.specs.JobText.{Remainder, in_front, rest_of, lines_said}
 use Rattle.script_text.specs.Frames.{opener_of, closed}
@@ -145,8 +144,3 @@ Finishes (Err e) reader = RefusedAtEnd e reader
 abbrev pub fault_at : ℕ → Fault → ParseFault
 fault_at line fault.Memory = parsing.Memory
 fault_at line (fault.Refused reason) = parsing.Script line reason
-
--- The word is that of one of these keywords.
-abbrev pub is_one_of : List Keyword → List ℕ → Bool
-is_one_of [] word = false
-is_one_of (keyword ∷ more) word = bytes_eq word (keyword_word keyword) || is_one_of more word

@@ -3,16 +3,13 @@
 ghost use Rattle.std.specs.Prelude.{◌≡◌, ℕ, Ok, Err, IfOk};
 ghost use Rattle.ledger_model.specs.declared.reason.Reason.{Reason};
 ghost use Rattle.script_text.specs.JobText.{job_of};
-ghost use Rattle.script_text.specs.Finding.{begins_with_one, first_line_of};
-ghost use Rattle.script_text.specs.Reading.{fault_at, is_one_of};
-ghost use Rattle.text_lines.specs.Lines.{words};
+ghost use Rattle.script_text.specs.Reading.{fault_at};
 
 use crate::fault::{Fault, ParseFault};
-use crate::keyword::Keyword;
 use crate::reader::Reader;
 use ledger_model::Job;
 use std::alloc::Global;
-use text_lines::{cut_line, cut_word};
+use text_lines::cut_line;
 
 /// The job that a text is. It is refused at its first line that may not stand where it does.
 pub fn parse(alloc: Global, text: &[u8]) -> Result<Job, ParseFault>
@@ -46,41 +43,4 @@ fn at_line(line: u64, fault: Fault) -> ParseFault
         Fault::Memory => ParseFault::Memory,
         Fault::Refused(reason) => ParseFault::Script { line, reason },
     }
-}
-
-/// The number, from 1, of the first line that begins with one of these keywords.
-pub fn first_line_of(keywords: &[Keyword], text: &[u8]) -> Option<u64>
-    ensures { result ≡ first_line_of keywords.now text.now }
-{
-    let mut rest = text;
-    let mut at: u64 = 1;
-    while !rest.is_empty() {
-        let (line, after) = cut_line(rest);
-        if begins_with_one(keywords, line) {
-            return Some(at);
-        }
-        at += 1;
-        rest = after;
-    }
-    None
-}
-
-fn begins_with_one(keywords: &[Keyword], line: &[u8]) -> bool
-    ensures { result ≡ begins_with_one keywords.now (words line.now) }
-{
-    match cut_word(line) {
-        Some((first, _)) => is_one_of(keywords, first),
-        None => false,
-    }
-}
-
-fn is_one_of(keywords: &[Keyword], word: &[u8]) -> bool
-    ensures { result ≡ is_one_of keywords.now word.now }
-{
-    for keyword in keywords {
-        if word == keyword.word() {
-            return true;
-        }
-    }
-    false
 }

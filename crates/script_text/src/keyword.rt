@@ -1,7 +1,7 @@
 //! The first words of lines.
 
 ghost use Rattle.std.specs.Prelude.{◌≡◌};
-ghost use Rattle.script_text.specs.Words.{keyword_of, keyword_word, is_unbuilt};
+ghost use Rattle.script_text.specs.Words.{keyword_of, is_unbuilt};
 
 /// The first word of a line.
 #[derive(Clone, Copy, Debug, PartialEq, Eq)]
@@ -78,44 +78,6 @@ pub fn keyword_of(word: &[u8]) -> Option<Keyword>
 }
 
 impl Keyword {
-    /// The word that a keyword is.
-    pub fn word(self) -> &'static [u8]
-        ensures { result.now ≡ keyword_word self }
-    {
-        match self {
-            Keyword::Stm => b"stm",
-            Keyword::Refs => b"refs",
-            Keyword::Maps => b"maps",
-            Keyword::Snaps => b"snaps",
-            Keyword::Blocks => b"blocks",
-            Keyword::Ref => b"ref",
-            Keyword::Worker => b"worker",
-            Keyword::Script => b"script",
-            Keyword::End => b"end",
-            Keyword::Steps => b"steps",
-            Keyword::Const => b"const",
-            Keyword::Read => b"read",
-            Keyword::Write => b"write",
-            Keyword::Add => b"add",
-            Keyword::Sub => b"sub",
-            Keyword::Print => b"print",
-            Keyword::Check => b"check",
-            Keyword::Need => b"need",
-            Keyword::Move => b"move",
-            Keyword::Inner => b"inner",
-            Keyword::Either => b"either",
-            Keyword::Or => b"or",
-            Keyword::Late => b"late",
-            Keyword::Hook => b"hook",
-            Keyword::Put => b"put",
-            Keyword::Del => b"del",
-            Keyword::Look => b"look",
-            Keyword::From => b"from",
-            Keyword::Snap => b"snap",
-            Keyword::Share => b"share",
-        }
-    }
-
     /// Whether lines of this keyword are not built yet.
     pub fn is_unbuilt(self) -> bool
         ensures { result ≡ is_unbuilt self }

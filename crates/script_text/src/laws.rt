@@ -1,11 +1,10 @@
 //! What the text of a job is: each function does nothing, and its clauses are theorems.
-ghost use Rattle.std.specs.Prelude.{◌≡◌, ℕ, List, ◌++◌, Ok, None, map, flat_map};
+ghost use Rattle.std.specs.Prelude.{◌≡◌, ◌≤◌, ℕ, List, ◌++◌, Ok, length, map, flat_map};
 ghost use Rattle.std.specs.List.{AllByRecursion};
 ghost use Rattle.text_lines.specs.Lines.{lines, words, text_of};
 ghost use Rattle.ledger_model.specs.declared.job.Job.{Job};
 ghost use Rattle.ledger_model.specs.Fits.{JobFits};
-ghost use Rattle.ledger_model.specs.Straight.{IsStraight};
-ghost use Rattle.script_text.specs.Finding.{first_line_of, not_straight};
+ghost use Rattle.ledger_model.specs.Run.{statement_count};
 ghost use Rattle.script_text.specs.Form.{FitsOnLine, IsBuilt, IsTextOf};
 ghost use Rattle.script_text.specs.JobText.{job_of};
 ghost use Rattle.script_text.specs.Printing.{canonical, job_lines, steps_line};
@@ -30,6 +29,12 @@ pub fn a_text_has_the_lines_of_its_job()
     ensures { (text : List ℕ) (job : Job) → job_of text ≡ Ok job → IsTextOf text job }
 {}
 
+/// A text has a line for each statement of a script of its job, and so no fewer bytes.
+pub fn a_text_has_a_line_for_each_statement()
+    ensures { (text : List ℕ) (job : Job) → IsTextOf text job →
+        AllByRecursion (λ scripts. AllByRecursion (λ script. statement_count script.block ≤ length text) scripts) job.workers }
+{}
+
 /// No text is the text of two jobs.
 pub fn one_job_per_text()
     ensures { (text : List ℕ) (a b : Job) → IsTextOf text a → IsTextOf text b → a ≡ b }
@@ -38,11 +43,4 @@ pub fn one_job_per_text()
 /// Texts with the same words in the same lines are one job, or have one refused line and reason.
 pub fn words_and_lines_decide()
     ensures { (a b : List ℕ) → map words (lines a) ≡ map words (lines b) → job_of a ≡ job_of b }
-{}
-
-/// A text that is a job is a straight one where no line begins with `steps`, nor with the word of a
-/// statement other than `const`, `read`, `write`, `add`, `sub` and `print`.
-pub fn a_text_without_other_words_is_straight()
-    ensures { (text : List ℕ) (job : Job) → job_of text ≡ Ok job →
-        first_line_of not_straight text ≡ None → IsStraight job }
 {}

@@ -14,6 +14,5 @@ mod words;
 pub mod worked;
 
 pub use fault::ParseFault;
-pub use job_text::{first_line_of, parse};
-pub use keyword::Keyword;
+pub use job_text::parse;
 pub use printing::print;
