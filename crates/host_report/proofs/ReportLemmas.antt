@@ -1,9 +1,12 @@
 -- The lines of a report are rows of words, and they tell the listing.
-use Rattle.std.proofs.Common.{◌≡◌, ℕ, Bool, true, false, MatchBool, List, [], ◌∷◌, ◌++◌, map, length, refl, ap, ◌∙◌, sym, codes, decimal}
+use Rattle.std.proofs.Common.{◌≡◌, ℕ, Bool, true, false, not, cond, IsTrue, List, [], ◌∷◌, ◌++◌, map, length, refl, ap, ◌∙◌, sym, codes, decimal}
 use Rattle.std.proofs.lemmas.Fmt.{decimal_injective}
 use Rattle.std.specs.List.{AllByRecursion, enumerate_from}
 use Rattle.std.specs.Str.{bytes_eq}
+use Rattle.stm_model.specs.declared.cause.Cause.{Cause}
+use Rattle.stm_model.specs.declared.cause.Cause.TheVariants.{Doomed}
 use Rattle.stm_model.specs.declared.settings.Settings.{Settings}
+use Rattle.stm_model.specs.Evidence.{Evidence}
 use Rattle.text_lines.specs.Lines.{Row as Line, is_word, AreWords, lines, words}
 use Rattle.text_lines.proofs.Lists.{AllByRecursion-append, AllByRecursion-map, heads_same, front_same, map_same}
 use Rattle.text_lines.proofs.LineLemmas.{words_come_back, words_same}
@@ -14,14 +17,14 @@ use Rattle.ledger_model.specs.declared.listing.Listing.{Listing}
 use Rattle.ledger_model.specs.declared.listing.Row.{Row}
 use Rattle.ledger_model.specs.declared.listing.RowResult.{RowResult}
 use Rattle.ledger_model.specs.declared.listing.RowResult.TheVariants.{Done, Fail, Spent, Full}
-use Rattle.ledger_model.specs.Replays.{Replays, TellsReader, TellsResult, TellsRow, TellsWriter, contents_after, run_of, writers_of}
+use Rattle.ledger_model.specs.Replays.{Replays, TellsReader, TellsResult, TellsRolled, TellsWriter, contents_after, others_of, run_of, writer_count, writers_of}
 use Rattle.ledger_model.specs.Run.{Outcome}
 use Rattle.ledger_model.specs.Report.{name_word, row_line, has_text, rolled_line, left_line, ref_line, ref_lines, pair_lines, contents_lines, rolled_and_left_lines, closing_lines, report_lines, report}
-use Rattle.ledger_model.specs.Reported.{HaveAsMany, IsReportedWhole, PrintsIfDone, ShowsDoom}
+use Rattle.ledger_model.specs.Reported.{HaveAsMany, HaveTexts, IsReportedWhole, PrintsIfDone, ShowsDoom}
 use Rattle.ledger_model.proofs.Listed.{listed_sized}
 use Rattle.host_report.specs.OneText.{OneTextOneListing, TextFixesListing}
 use Rattle.host_report.specs.WithinTypes.{IsNameWithinTypes, IsRolledWithinTypes, IsRowWithinTypes, IsWithinTypes, IsWord}
-use Rattle.host_report.proofs.WordLemmas.{all_both, all_of_none, all_pass, all_weaker, name_is_word, name_same}
+use Rattle.host_report.proofs.WordLemmas.{all_both, all_pass, all_weaker, name_is_word, name_same}
 use Rattle.host_report.proofs.RowLemmas.{IsRowShown, row_line_of_words, row_same}
 use Rattle.host_report.proofs.RolledLemmas.{IsRolledShown, rolled_line_of_words, rolled_same}
 use Rattle.host_report.proofs.ContentsLemmas.{by_contents, contents_of_words, maps_same, refs_same}
@@ -150,11 +153,14 @@ one_text a b h k p q many e =
 
 -- ---- listings that replay a job are shown whole
 
-result_done : (r : RowResult) (settings : Settings) (row : Row) (outcome : Outcome) → TellsResult r settings row outcome → r ≡ Done
-result_done Done settings row outcome h = refl
-result_done (Fail code) settings row outcome h = absurd h
-result_done Spent settings row outcome h = absurd h
-result_done (Full used allowance) settings row outcome h = absurd h
+-- what holds of all writers and of all others holds of all rows
+all_rows : (P : Row → Type 0) (rows : List Row) → AllByRecursion P (writers_of rows) → AllByRecursion P (others_of rows) → AllByRecursion P rows
+all_rows P [] h k = tt
+all_rows P (row ∷ rows) h k = at row.writer (all_rows P rows) h k where
+  at : (w : Bool) → (AllByRecursion P (writers_of rows) → AllByRecursion P (others_of rows) → AllByRecursion P rows)
+      → AllByRecursion P (cond w (row ∷ writers_of rows) (writers_of rows)) → AllByRecursion P (cond (not w) (row ∷ others_of rows) (others_of rows)) → AllByRecursion P (row ∷ rows)
+  at true rest h k = (h.0, rest h.1 k)
+  at false rest h k = (k.0, rest h k.1)
 
 done_prints : (r : RowResult) (prints : List ℕ) → r ≡ Done → PrintsIfDone r prints
 done_prints Done prints e = tt
@@ -162,22 +168,40 @@ done_prints (Fail code) prints e = cc
 done_prints Spent prints e = cc
 done_prints (Full used allowance) prints e = cc
 
-told_done : (w : Bool) (job : Job) (settings : Settings) (rows : List Row) (row : Row) → MatchBool w (TellsWriter job settings rows row) (TellsReader job settings rows row) → row.result ≡ Done
-told_done true job settings rows row t = t.done
-told_done false job settings rows row t = result_done row.result settings row (run_of job row.worker row.number (contents_after job rows row.position)) t.tells
+result_prints : (r : RowResult) (settings : Settings) (row : Row) (outcome : Outcome) → TellsResult r settings row outcome → PrintsIfDone r row.prints
+result_prints Done settings row outcome h = tt
+result_prints (Fail code) settings row outcome h = h.printed
+result_prints Spent settings row outcome h = h.printed
+result_prints (Full used allowance) settings row outcome h = absurd h
+
+rows_print : (job : Job) (settings : Settings) (a : Listing) → Replays job settings a → AllByRecursion (λ row. PrintsIfDone row.result row.prints) a.rows
+rows_print job settings a h =
+    all_rows (λ row. PrintsIfDone row.result row.prints) a.rows
+    (all_weaker (TellsWriter job settings a.rows) (λ row. PrintsIfDone row.result row.prints) (λ row t. done_prints row.result row.prints t.done) (writers_of a.rows) h.writers)
+    (all_weaker (TellsReader job settings a.rows) (λ row. PrintsIfDone row.result row.prints)
+    (λ row t. result_prints row.result settings row (run_of job row.worker row.number (contents_after job a.rows row.position)) t.tells) (others_of a.rows) h.others)
+
+shows_doom : (own : ℕ) (settings : Settings) (cause : Cause) → Evidence own settings cause → ShowsDoom cause
+unfolding Evidence
+shows_doom own settings (Doomed status) h = h
+shows_doom own settings _ h = tt
+
+-- each rolled attempt of a listing that replays a job has a cause that a report can name
+pub replay_texts : (job : Job) (settings : Settings) (a : Listing) → Replays job settings a → HaveTexts a
+replay_texts job settings a h = all_weaker (TellsRolled job settings a.rows) (λ rolled. IsTrue (has_text rolled.cause)) (λ rolled t. t.cause) a.rolled h.rolled
 
 replay_shown : (job : Job) (settings : Settings) (a : Listing) → Replays job settings a → IsReportedWhole a
 replay_shown job settings a h = record {
-  texts = all_of_none (λ rolled. has_text rolled.cause ≡ true) a.rolled h.rolled;
-  prints = all_weaker (TellsRow job settings a.rows) (λ row. PrintsIfDone row.result row.prints)
-      (λ row t. done_prints row.result row.prints (told_done row.writer job settings a.rows row t)) a.rows h.rows;
-  dooms = all_of_none (λ rolled. ShowsDoom rolled.cause) a.rolled h.rolled;
+  texts = replay_texts job settings a h;
+  prints = rows_print job settings a h;
+  dooms = all_weaker (TellsRolled job settings a.rows) (λ rolled. ShowsDoom rolled.cause)
+      (λ rolled t. shows_doom rolled.worker settings rolled.cause t.evidence) a.rolled h.rolled;
 }
 
 replays_have_as_many : (job : Job) (settings others : Settings) (a b : Listing) → Replays job settings a → Replays job others b → HaveAsMany a b
 replays_have_as_many job settings others a b h k =
-    let left = listed_sized job a.rows (length (writers_of a.rows)) in
-    let right = listed_sized job b.rows (length (writers_of b.rows)) in
+    let left = listed_sized job a.rows (writer_count a.rows) in
+    let right = listed_sized job b.rows (writer_count b.rows) in
     record {
       maps = ap (λ (c : Contents). length c.maps) h.contents ∙ left.1 ∙ sym right.1 ∙ sym (ap (λ (c : Contents). length c.maps) k.contents);
       slots = ap (λ (c : Contents). length c.slots) h.contents ∙ left.2 ∙ sym right.2 ∙ sym (ap (λ (c : Contents). length c.slots) k.contents);

@@ -1,5 +1,5 @@
 -- Tests of words and of the lines that begin with them, and the names of scripts.
-use Rattle.std.proofs.Common.{◌≡◌, ℕ, ◌<◌, ◌^◌, Bool, true, not, nat_eq, IsTrue, List, [], ◌∷◌, ◌++◌, map, length, sym, ap, refl, ◌∙◌, append_assoc, arith, codes, decimal}
+use Rattle.std.proofs.Common.{◌≡◌, ℕ, ◌<◌, ◌^◌, Bool, true, not, nat_eq, IsTrue, List, [], ◌∷◌, ◌++◌, map, sym, refl, ◌∙◌, append_assoc, arith, codes, decimal}
 use Rattle.std.proofs.lemmas.Bool.Decides.{nat_tests}
 use Rattle.std.proofs.lemmas.Fmt.{decimal_injective}
 use Rattle.std.specs.Char.{is_ascii_digit}
@@ -23,10 +23,6 @@ all_both P Q (x ∷ xs) h k = ((h.0, k.0), all_both P Q xs h.1 k.1)
 pub all_weaker : {X : Type 0} (P Q : X → Type 0) → ((x : X) → P x → Q x) → (xs : List X) → AllByRecursion P xs → AllByRecursion Q xs
 all_weaker P Q f [] h = tt
 all_weaker P Q f (x ∷ xs) h = (f x h.0, all_weaker P Q f xs h.1)
-
-pub all_of_none : {X : Type 0} (P : X → Type 0) (xs : List X) → xs ≡ [] → AllByRecursion P xs
-all_of_none P [] e = tt
-all_of_none P (x ∷ xs) e = let t = ap length e in absurd (omega arith)
 
 -- ---- words
 
