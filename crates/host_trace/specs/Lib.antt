@@ -1,0 +1,4 @@
+pub mod Tellings
+pub mod Footings
+pub mod Flights
+pub mod Tracings
