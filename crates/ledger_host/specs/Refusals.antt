@@ -4,8 +4,8 @@ use Rattle.stm_io.specs.Faults.{Rose}
 use Rattle.stm_io.specs.Whole.{TookAtMost, most_bytes}
 use Rattle.script_text.specs.declared.fault.ParseFault.{ParseFault}
 use Rattle.script_text.specs.declared.fault.ParseFault.TheVariants as parsing
+use Rattle.script_text.specs.JobText.{job_of}
 use Rattle.ledger_host.specs.Answers.{IsRefused}
-use Rattle.ledger_host.specs.Accepted.{accepted_job}
 use Rattle.ledger_host.specs.declared.host.Refusal.{Refusal}
 use Rattle.ledger_host.specs.declared.host.Refusal.TheVariants.{Script, ReadFault, Memory}
 
@@ -16,7 +16,7 @@ refusal_of parsing.Memory = Memory
 
 -- of a text that was read
 abbrev pub IsRefusalOf : List ℕ → Refusal → Type 0
-IsRefusalOf text (Script line reason) = accepted_job text ≡ Err (line, reason)
+IsRefusalOf text (Script line reason) = job_of text ≡ Err (line, reason)
 IsRefusalOf text ReadFault = ⊥
 IsRefusalOf text Memory = Unit {0}
 

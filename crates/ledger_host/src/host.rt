@@ -2,18 +2,18 @@
 ghost use Rattle.std.specs.Prelude.{◌≡◌, ◌≢◌, ◌≤◌, ◌⊎◌, Some, List, ℕ, IfErr, IfOk, length, map, string_bytes};
 ghost use Rattle.ledger_model.specs.declared.reason.Reason.{Reason};
 ghost use Rattle.stm_io.specs.Faults.{Rose};
+ghost use Rattle.stm_io.specs.Whole.{most_bytes};
 ghost use Rattle.host_report.specs.OneText.{TextFixesListing};
-ghost use Rattle.ledger_host.specs.Words.{AsksTrace};
+ghost use Rattle.ledger_host.specs.Words.{AskForSome, Trace};
+ghost use Rattle.ledger_host.specs.Settings.{default_settings};
 ghost use Rattle.ledger_host.specs.Refusals.{IsRefusalOf, IsRefusalFrom};
 ghost use Rattle.ledger_host.specs.Answers.{Answers, HasReport, IsReportOf, TellsJob, TellsNoJob};
 
-use crate::accepted::accepted_job;
-use crate::settings::default_settings;
+use crate::listing::listing_of;
 use crate::words::asks_trace;
 use host_report::report_text;
-use ledger_model::{Listing, Reason};
-use plain_run::run_in_turn;
-use script_text::ParseFault;
+use ledger_model::Reason;
+use script_text::{ParseFault, parse};
 use std::alloc::Global;
 use stm_io::{ReadAllFault, Sink, Source, read_all, write_whole};
 use stm_model::Memory;
@@ -70,12 +70,13 @@ impl From<ParseFault> for Refusal {
 
 // The report of a job text.
 fn report_of(alloc: Global, text: &[u8]) -> Result<Vec<u8>, Refusal>
-    ensures report { IfOk result (λ report. IsReportOf text.now report.items) }
+    requires { length text.now ≤ most_bytes }
+    ensures report { IfOk result (λ report. IsReportOf Trace default_settings text.now report.items) }
     ensures refused { IfErr result (λ refusal. IsRefusalOf text.now refusal) }
 {
-    match accepted_job(alloc, text) {
+    match parse(alloc, text) {
         Ok(job) => {
-            let listing = run_in_turn(alloc, &job, &default_settings(&job))?;
+            let listing = listing_of(alloc, &job)?;
             Ok(report_text(alloc, &listing)?)
         }
         Err(fault) => Err(Refusal::from(fault)),
@@ -84,7 +85,7 @@ fn report_of(alloc: Global, text: &[u8]) -> Result<Vec<u8>, Refusal>
 
 // The report of the job that the source has.
 fn report_from<S: Source>(alloc: Global, source: &mut S) -> Result<Vec<u8>, Refusal>
-    ensures report { IfOk result (λ report. HasReport (S.left source.old) (S.left source.new) report.items) }
+    ensures report { IfOk result (λ report. HasReport Trace default_settings (S.left source.old) (S.left source.new) report.items) }
     ensures refused { IfErr result (λ refusal. IsRefusalFrom (S.left source.old) (S.left source.new) (S.faults source.old) (S.faults source.new) refusal) }
     ensures never_falls { S.faults source.old ≤ S.faults source.new }
 {
@@ -106,7 +107,7 @@ fn answer<S: Source, K: Sink>(
     source: &mut S,
     sink: &mut K,
 ) -> HostStatus
-    ensures { Answers S.left S.faults K.held K.faults (map string_bytes words.now) source.old source.new sink.old sink.new result }
+    ensures { Answers S.left S.faults K.held K.faults (map string_bytes words.now) default_settings source.old source.new sink.old sink.new result }
 {
     if !asks_trace(words) {
         return HostStatus::Usage;
@@ -123,7 +124,7 @@ fn answer<S: Source, K: Sink>(
 }
 
 /// Does what the words behind the program's name ask for: reads a job from the source, runs its
-/// scripts one worker after another, and writes the report to the sink. The report is made whole
+/// scripts under its written schedule, and writes the report to the sink. The report is made whole
 /// before its first byte is written, and writing it takes no memory.
 pub fn host_plain<S: Source, K: Sink>(
     alloc: Global,
@@ -131,12 +132,12 @@ pub fn host_plain<S: Source, K: Sink>(
     source: &mut S,
     sink: &mut K,
 ) -> HostStatus
-    ensures answers { Answers S.left S.faults K.held K.faults (map string_bytes words.now) source.old source.new sink.old sink.new result }
+    ensures answers { Answers S.left S.faults K.held K.faults (map string_bytes words.now) default_settings source.old source.new sink.old sink.new result }
 
-    ensures usage { ¬ AsksTrace (map string_bytes words.now) → result ≡ HostStatus.Usage }
-    ensures refused { (line : ℕ) (reason : Reason) → AsksTrace (map string_bytes words.now) → TellsNoJob (S.left source.old) line reason
+    ensures usage { ¬ AskForSome (map string_bytes words.now) → result ≡ HostStatus.Usage }
+    ensures refused { (line : ℕ) (reason : Reason) → AskForSome (map string_bytes words.now) → TellsNoJob (S.left source.old) line reason
         → ¬ Rose (S.faults source.old) (S.faults source.new) → (result ≡ HostStatus.Script line reason) ⊎ (result ≡ HostStatus.Memory) }
-    ensures complete { AsksTrace (map string_bytes words.now) → TellsJob (S.left source.old)
+    ensures complete { AskForSome (map string_bytes words.now) → TellsJob (S.left source.old)
         → ¬ Rose (S.faults source.old) (S.faults source.new) → ¬ Rose (K.faults sink.old) (K.faults sink.new)
         → (result ≡ HostStatus.Done) ⊎ (result ≡ HostStatus.Memory) }
 

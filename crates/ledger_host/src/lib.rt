@@ -1,8 +1,8 @@
 //! The whole program but for its real streams: words, a source and a sink, and an answer.
 #![tactic(auto)]
 
-mod accepted;
 mod host;
+mod listing;
 mod settings;
 mod words;
 

@@ -3,7 +3,8 @@ ghost use Rattle.std.specs.Prelude.{◌≡◌, ◌⊎◌, ◌↔◌, ℕ, map, s
 ghost use Rattle.std.specs.Process.{exit_status};
 ghost use Rattle.stm_io.specs.Faults.{Rose};
 ghost use Rattle.ledger_model.specs.declared.reason.Reason.{Reason};
-ghost use Rattle.ledger_host.specs.Words.{AsksTrace};
+ghost use Rattle.ledger_host.specs.Words.{AskForSome};
+ghost use Rattle.ledger_host.specs.Settings.{default_settings};
 ghost use Rattle.ledger_host.specs.Answers.{Answers, TellsJob, TellsNoJob};
 ghost use Rattle.ledger_host.specs.declared.host.HostStatus.{HostStatus};
 ghost use Rattle.ledger_program.specs.Status.{error_line, exit_number, refusal_line};
@@ -27,16 +28,16 @@ pub fn program<S: Source, K: Sink, E: Sink>(
     errors: &mut E,
 ) -> ExitCode
     ensures ends { Ends
-        (Answers S.left S.faults K.held K.faults (map string_bytes words.now) source.old source.new sink.old sink.new)
+        (Answers S.left S.faults K.held K.faults (map string_bytes words.now) default_settings source.old source.new sink.old sink.new)
         (IsTold (E.held errors.old) (E.held errors.new) (E.faults errors.old) (E.faults errors.new))
         (exit_status result) }
 
-    ensures usage { (exit_status result ≡ 2) ↔ (¬ AsksTrace (map string_bytes words.now)) }
-    ensures refused { (line : ℕ) (reason : Reason) → AsksTrace (map string_bytes words.now) → TellsNoJob (S.left source.old) line reason
+    ensures usage { (exit_status result ≡ 2) ↔ (¬ AskForSome (map string_bytes words.now)) }
+    ensures refused { (line : ℕ) (reason : Reason) → AskForSome (map string_bytes words.now) → TellsNoJob (S.left source.old) line reason
         → ¬ Rose (S.faults source.old) (S.faults source.new)
         → (exit_status result ≡ 3) × IsTold (E.held errors.old) (E.held errors.new) (E.faults errors.old) (E.faults errors.new) (refusal_line line reason)
         ⊎ (exit_status result ≡ 6) }
-    ensures complete { AsksTrace (map string_bytes words.now) → TellsJob (S.left source.old)
+    ensures complete { AskForSome (map string_bytes words.now) → TellsJob (S.left source.old)
         → ¬ Rose (S.faults source.old) (S.faults source.new) → ¬ Rose (K.faults sink.old) (K.faults sink.new)
         → (exit_status result ≡ 0) ⊎ (exit_status result ≡ 6) }
 {
