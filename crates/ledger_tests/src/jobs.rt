@@ -1,14 +1,17 @@
 //! Jobs that texts say, and their canonical texts.
 
 use crate::random::{Random, random_text};
-use crate::written::text_of;
-use ledger_model::{Operand, Statement};
+use ledger_model::{Job, Operand, Statement};
 use script_text::{ParseFault, parse, print};
-use std::alloc::{AllocError, Global};
-use std::process::Abort;
+use std::alloc::Global;
 use std::test::Fail;
 use stm_io::{MemSource, read_all};
 use stm_model::HookPhase;
+
+/// The job that a text is. What is proved of it would be worked out anew at each text below, so no clause says it.
+fn job_of(alloc: Global, text: &[u8]) -> Result<Job, ParseFault> {
+    parse(alloc, text)
+}
 
 /// The canonical text of the job that a text is.
 fn reprinted(alloc: Global, text: &[u8]) -> Result<Vec<u8>, ParseFault> {
@@ -17,113 +20,6 @@ fn reprinted(alloc: Global, text: &[u8]) -> Result<Vec<u8>, ParseFault> {
         Ok(text) => Ok(text),
         Err(_) => Err(ParseFault::Memory),
     }
-}
-
-/// Each text is that of the job that it is.
-fn come_back(rt: &impl Abort, alloc: Global, texts: &[&str]) -> Result<(), Fail> {
-    for lines in texts {
-        let text = text_of(alloc, lines)?;
-        assert_eq!(rt;
-            reprinted(alloc, &text)?.as_slice(),
-            text.as_slice(),
-            "at {lines}"
-        );
-    }
-    Ok(())
-}
-
-#[test]
-fn canonical_texts_come_back(rt: HostRuntime) -> Result<(), Fail> {
-    let texts = [
-        "stm 1",
-        "stm 1 / refs 1",
-        "stm 1 / refs 65536 / ref 0 1 / ref 7 18446744073709551615 / ref 65535 2",
-        "stm 1 / worker",
-        "stm 1 / worker / worker / script / end / script / end / worker",
-        "stm 1 / worker / worker / steps 1 2 2 1",
-        "stm 1 / refs 2 / worker / script / read r0 1 / write 0 r15 / write 1 7 / move 0 1 r2 / move 1 0 9 / end",
-        "stm 1 / worker / script / const r3 0 / const r0 18446744073709551615 / add r1 r2 / add r1 2 / sub r4 r5 / sub r4 5 / end",
-        "stm 1 / worker / script / print r1 / print 0 / check r1 2 3 / check 1 r2 65535 / need r1 r2 / need 3 4 / end",
-        "stm 1 / worker / script / hook preparing 1 / hook committing 2 / hook commit 3 / hook rollback 4 / hook completion 0 / end",
-        "stm 1 / worker / script / inner r9 / end / inner r0 / print 1 / inner r1 / print 2 / end / print 3 / end / end",
-        "stm 1 / worker / script / late / end / late / print 1 / late / hook commit 1 / end / end / print 2 / end",
-        "stm 1 / worker / script / either / or / end / either / print 1 / or / print 2 / or / print 3 / print 4 / end / end",
-        "stm 1 / worker / script / either / either / or / end / or / inner r0 / either / print 1 / or / end / end / or / late / end / end / end",
-    ];
-    come_back(&rt, rt.alloc(), &texts)
-}
-
-#[test]
-fn other_spellings_are_printed_canonically(rt: HostRuntime) -> Result<(), Fail> {
-    let alloc = rt.alloc();
-    let texts = [
-        ("stm 1 / refs 0", "stm 1"),
-        ("stm 1 / refs 2 / ref 0 0 / ref 1 00", "stm 1 / refs 2"),
-        (
-            "# none /  /   stm   1   / refs 03 /   # ref 0 1 / ref 00 0 / ref 01 007 /    ",
-            "stm 1 / refs 3 / ref 1 7",
-        ),
-        (
-            "stm 1 / worker /   script / #end / print    00000000000000000000   / end   / steps   1 01 / steps 001",
-            "stm 1 / worker / script / print 0 / end / steps 1 1 1",
-        ),
-        (
-            "stm 1 / worker / script / inner r1 / check 01 r2 065535 /    / end / hook commit 010 / end",
-            "stm 1 / worker / script / inner r1 / check 1 r2 65535 / end / hook commit 10 / end",
-        ),
-    ];
-    for (lines, canonical) in texts {
-        let text = text_of(alloc, lines)?;
-        let canonical = text_of(alloc, canonical)?;
-        assert_eq!(rt;
-            reprinted(alloc, &text)?.as_slice(),
-            canonical.as_slice(),
-            "at {lines}"
-        );
-    }
-    let text = b"stm 1\nworker\nscript\nend";
-    assert_eq!(rt;
-        reprinted(alloc, text)?.as_slice(),
-        b"stm 1\nworker\nscript\nend\n".as_slice()
-    );
-    Ok(())
-}
-
-/// A line of so many steps, by turns of the workers 1 and 2.
-fn steps_line(alloc: Global, pairs: usize) -> Result<String, AllocError> {
-    let mut line = String::from_str(alloc, "steps")?;
-    line.push_str(&" 1 2".repeat(alloc, pairs)?)?;
-    Ok(line)
-}
-
-#[test]
-fn steps_stand_32_on_a_line(rt: HostRuntime) -> Result<(), Fail> {
-    let alloc = rt.alloc();
-    for (given, printed) in [
-        ([32, 3], [16, 16, 3]),
-        ([16, 16], [16, 16, 0]),
-        ([31, 2], [16, 16, 1]),
-        ([8, 8], [16, 0, 0]),
-        ([8, 7], [15, 0, 0]),
-        ([8, 9], [16, 1, 0]),
-    ] {
-        let mut text = text_of(alloc, "stm 1 / worker / worker")?;
-        for pairs in given {
-            text.extend_from_slice(&text_of(alloc, &steps_line(alloc, pairs)?)?)?;
-        }
-        let mut canonical = text_of(alloc, "stm 1 / worker / worker")?;
-        for pairs in printed {
-            if pairs > 0 {
-                canonical.extend_from_slice(&text_of(alloc, &steps_line(alloc, pairs)?)?)?;
-            }
-        }
-        assert_eq!(rt;
-            reprinted(alloc, &text)?.as_slice(),
-            canonical.as_slice(),
-            "at {given:?}"
-        );
-    }
-    Ok(())
 }
 
 #[test]
@@ -148,36 +44,49 @@ fn random_jobs_are_printed_and_read_back(rt: HostRuntime) -> Result<(), Fail> {
     Ok(())
 }
 
+/// What a source gives in pieces of four bytes.
+fn read_in_pieces(alloc: Global, text: &[u8]) -> Result<Vec<u8>, Fail> {
+    let text = Vec::from_slice(alloc, text)?;
+    let mut source = MemSource::new(text, 4, Vec::new(alloc));
+    Ok(read_all(alloc, &mut source)?)
+}
+
 #[test]
 fn the_empty_job_is_read_and_printed_in_six_bytes(rt: HostRuntime) -> Result<(), Fail> {
     let alloc = rt.alloc();
-    let text = Vec::from_slice(alloc, b"stm 1\n")?;
-    let mut source = MemSource::new(text, 4, Vec::new(alloc));
-    let read = read_all(alloc, &mut source)?;
+    let read = read_in_pieces(alloc, b"stm 1\n")?;
     assert_eq!(rt; read.len(), 6);
-    let job = parse(alloc, &read)?;
-    assert_eq!(rt;
-        (
-            job.refs,
-            job.openings.len(),
-            job.workers.len(),
-            job.steps.len()
-        ),
-        (0, 0, 0, 0)
+    let job = job_of(alloc, &read)?;
+    let counts = (
+        job.refs,
+        job.openings.len(),
+        job.workers.len(),
+        job.steps.len(),
     );
-    assert_eq!(rt; print(alloc, &job)?.as_slice(), b"stm 1\n".as_slice());
+    assert_eq!(rt; counts, (0, 0, 0, 0));
+    assert_eq!(rt; reprinted(alloc, &read)?.as_slice(), b"stm 1\n".as_slice());
+    Ok(())
+}
+
+#[test]
+fn the_last_line_is_printed_with_a_line_feed(rt: HostRuntime) -> Result<(), Fail> {
+    let printed = reprinted(rt.alloc(), b"stm 1\nworker\nscript\nend")?;
+    assert_eq!(rt;
+        printed.as_slice(),
+        b"stm 1\nworker\nscript\nend\n".as_slice()
+    );
     Ok(())
 }
 
 #[test]
 fn references_begin_with_what_is_written(rt: HostRuntime) -> Result<(), Fail> {
-    let empty = parse(rt.alloc(), b"stm 1\nrefs 0\n")?;
+    let empty = job_of(rt.alloc(), b"stm 1\nrefs 0\n")?;
     assert_eq!(rt;
         (empty.refs, empty.openings.len(), empty.workers.len()),
         (0, 0, 0)
     );
     let text = b"stm 1\nrefs 0065536\nref 00 007\nref 3 0\nref 65535 18446744073709551615\n";
-    let job = parse(rt.alloc(), text)?;
+    let job = job_of(rt.alloc(), text)?;
     assert_eq!(rt; job.refs, 65_536);
     assert_eq!(rt;
         job.openings.as_slice(),
@@ -190,17 +99,24 @@ fn references_begin_with_what_is_written(rt: HostRuntime) -> Result<(), Fail> {
     Ok(())
 }
 
+const STATEMENTS: &[u8] =
+    b"stm 1\nrefs 2\nworker\nscript\nconst r15 00000000000000000002\nread r0 1\nwrite 01 r10\nadd r9 5\nsub r8 r9\nprint 0\nend\nscript\nend\nworker\n";
+
 #[test]
 fn statements_are_what_their_lines_say(rt: HostRuntime) -> Result<(), Fail> {
-    let text =
-        b"stm 1\nrefs 2\nworker\nscript\nconst r15 00000000000000000002\nread r0 1\nwrite 01 r10\nadd r9 5\nsub r8 r9\nprint 0\nend\nscript\nend\nworker\n";
-    let job = parse(rt.alloc(), text)?;
+    let job = job_of(rt.alloc(), STATEMENTS)?;
     assert_eq!(rt; job.workers.len(), 2);
     assert_eq!(rt; job.workers.at(1).len(), 0);
     let scripts = job.workers.at(0);
     assert_eq!(rt; scripts.len(), 2);
     assert_eq!(rt; scripts.at(1).block.len(), 0);
-    let said = match scripts.at(0).block.as_slice() {
+    assert!(rt; are_those_statements(scripts.at(0).block.as_slice()));
+    Ok(())
+}
+
+/// Whether these are the statements of the first script of `STATEMENTS`.
+fn are_those_statements(block: &[Statement]) -> bool {
+    match block {
         [
             Statement::Const { reg, number },
             Statement::Read { reg: to, cell },
@@ -222,19 +138,15 @@ fn statements_are_what_their_lines_say(rt: HostRuntime) -> Result<(), Fail> {
                 && *shown == Operand::Number(0)
         }
         _ => false,
-    };
-    assert!(rt; said);
-    Ok(())
+    }
 }
+
+const BLOCKS: &[u8] =
+    b"stm 1\nrefs 2\nworker\nscript\ninner r3\ncheck r1 2 5\nlate\nneed 1 2\nend\nend\neither\nmove 1 0 r2\nor\nor\nprint 4\nprint 5\nend\nhook rollback 6\nend\nworker\nsteps 2 1\n";
 
 #[test]
 fn blocks_hold_what_stands_inside_them(rt: HostRuntime) -> Result<(), Fail> {
-    let alloc = rt.alloc();
-    let text = text_of(
-        alloc,
-        "stm 1 / refs 2 / worker / script / inner r3 / check r1 2 5 / late / need 1 2 / end / end / either / move 1 0 r2 / or / or / print 4 / print 5 / end / hook rollback 6 / end / worker / steps 2 1",
-    )?;
-    let job = parse(alloc, &text)?;
+    let job = job_of(rt.alloc(), BLOCKS)?;
     assert_eq!(rt; job.steps.as_slice(), [2, 1].as_slice());
     assert_eq!(rt; job.workers.len(), 2);
     let scripts = job.workers.at(0);
@@ -246,23 +158,25 @@ fn blocks_hold_what_stands_inside_them(rt: HostRuntime) -> Result<(), Fail> {
             Statement::Hook { phase, token },
         ] => {
             assert_eq!(rt; (*reg, *phase, *token), (3, HookPhase::Rollback, 6));
+            assert!(rt; is_check_and_late(block.as_slice()));
             assert_eq!(rt; parts.len(), 3);
-            assert_eq!(rt; parts.at(0).len(), 1);
-            assert_eq!(rt; parts.at(1).len(), 0);
-            assert_eq!(rt; parts.at(2).len(), 2);
-            let said = match block.as_slice() {
-                [
-                    Statement::Check { left, right, code },
-                    Statement::Late { block },
-                ] => {
-                    (*left, *right, *code) == (Operand::Reg(1), Operand::Number(2), 5)
-                        && block.len() == 1
-                }
-                _ => false,
-            };
-            assert!(rt; said);
+            let lengths = [parts.at(0).len(), parts.at(1).len(), parts.at(2).len()];
+            assert_eq!(rt; lengths, [1, 0, 2]);
         }
         _ => assert!(rt; false, "three statements"),
     }
     Ok(())
+}
+
+/// Whether these are the statements inside the `inner` of `BLOCKS`.
+fn is_check_and_late(block: &[Statement]) -> bool {
+    match block {
+        [
+            Statement::Check { left, right, code },
+            Statement::Late { block },
+        ] => {
+            (*left, *right, *code) == (Operand::Reg(1), Operand::Number(2), 5) && block.len() == 1
+        }
+        _ => false,
+    }
 }

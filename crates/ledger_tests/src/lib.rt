@@ -1,5 +1,5 @@
 //! Tests of the program over memory: worked jobs, refusals, failing ends, the greatest texts, and what
-//! standard error is told. And of what it stands on: texts of jobs, worked scripts, rows, and reports.
+//! standard error is told. And of what it stands on: texts of jobs, rows, and reports.
 #![tactic(auto)]
 
 #[cfg(test)]
@@ -15,8 +15,4 @@ mod reports;
 #[cfg(test)]
 mod rows;
 #[cfg(test)]
-mod scripts;
-#[cfg(test)]
 mod tests;
-#[cfg(test)]
-mod written;

@@ -3,6 +3,7 @@
 use ledger_host::HostStatus;
 use ledger_model::Reason;
 use ledger_program::{error_line, program};
+use std::alloc::{AllocError, Global};
 use std::process::ExitCode;
 use std::test::Fail;
 use stm_io::{MemSink, MemSource};
@@ -28,21 +29,32 @@ fn each_status_has_its_line(rt: HostRuntime) {
     }
 }
 
+// What a call of the program ended with, and what was written.
+#[derive(Drop)]
+struct Ended {
+    code: ExitCode,
+    sink: MemSink,
+    errors: MemSink,
+}
+
+fn end_of(alloc: Global, text: &[u8]) -> Result<Ended, AllocError> {
+    let words = vec![in alloc; String::from_str(alloc, "trace")?]?;
+    let mut source = MemSource::new(Vec::from_slice(alloc, text)?, 3, Vec::new(alloc));
+    let mut sink = empty_sink(alloc)?;
+    let mut errors = empty_sink(alloc)?;
+    let code = program(alloc, &words, &mut source, &mut sink, &mut errors);
+    Ok(Ended { code, sink, errors })
+}
+
+fn empty_sink(alloc: Global) -> Result<MemSink, AllocError> {
+    MemSink::new(alloc, 100, 8, Vec::new(alloc)).map_err(|_| AllocError)
+}
+
 #[test]
 fn a_refused_job_is_told_on_standard_error_alone(rt: HostRuntime) -> Result<(), Fail> {
-    let alloc = rt.alloc();
-    let mut words = Vec::new(alloc);
-    words.push(String::from_str(alloc, "trace")?)?;
-    let mut source = MemSource::new(
-        Vec::from_slice(alloc, b"stm 1\njump\n")?,
-        3,
-        Vec::new(alloc),
-    );
-    let mut sink = MemSink::new(alloc, 100, 8, Vec::new(alloc)).expect(&rt, "room");
-    let mut errors = MemSink::new(alloc, 100, 8, Vec::new(alloc)).expect(&rt, "room");
-    let code = program(alloc, &words, &mut source, &mut sink, &mut errors);
-    assert_eq!(rt; code, ExitCode::from(3));
-    assert_eq!(rt; sink.bytes(), [].as_slice());
-    assert_eq!(rt; errors.bytes(), b"ledger: line 2: word\n".as_slice());
+    let ended = end_of(rt.alloc(), b"stm 1\njump\n")?;
+    assert_eq!(rt; ended.code, ExitCode::from(3));
+    assert_eq!(rt; ended.sink.bytes(), [].as_slice());
+    assert_eq!(rt; ended.errors.bytes(), b"ledger: line 2: word\n".as_slice());
     Ok(())
 }

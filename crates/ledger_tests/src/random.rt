@@ -5,8 +5,8 @@ use std::alloc::{AllocError, Global};
 
 /// Numbers that look random: each is the last one, shifted and mixed with itself.
 #[derive(Clone, Copy)]
-pub struct Random {
-    pub state: u64,
+pub(crate) struct Random {
+    pub(crate) state: u64,
 }
 
 impl Random {
@@ -70,7 +70,7 @@ const STRAY_WORDS: &[&'static str] = &[
     "r7",
 ];
 
-// What stands between two lines now and then, and is refused in most places.
+// What stands between two lines now and then: most of it is refused in most places, the rest is skipped.
 const STRAY_LINES: &[&'static str] = &[
     "end",
     "or",
@@ -95,6 +95,20 @@ const PHASES: &[&'static str] = &[
     "commit",
     "rollback",
     "completion",
+];
+
+// The forms of statements: a capital stands for a word of its kind.
+const STATEMENTS: &[&'static str] = &[
+    "const R N",
+    "read R A",
+    "write A X",
+    "add R X",
+    "sub R X",
+    "print X",
+    "check X X C",
+    "need X X",
+    "move A A X",
+    "hook P N",
 ];
 
 // What is open: an `either` of one part, one of more parts, or another block.
@@ -150,25 +164,6 @@ impl Draft {
         self.word(&word)
     }
 
-    fn operand(&mut self) -> Result<(), AllocError> {
-        if self.random.is_time(2) {
-            self.register()
-        } else {
-            let number = self.random.number();
-            self.number(number)
-        }
-    }
-
-    fn cell(&mut self) -> Result<(), AllocError> {
-        let refs = self.refs;
-        let cell = if refs == 0 {
-            0
-        } else {
-            self.random.below(refs)
-        };
-        self.number(cell)
-    }
-
     // The line ends, and skipped or stray ones may follow.
     fn end_line(&mut self) -> Result<(), AllocError> {
         if self.random.is_time(8) {
@@ -187,78 +182,36 @@ impl Draft {
         Ok(())
     }
 
-    // A line of this one word.
-    fn line(&mut self, word: &str) -> Result<(), AllocError> {
-        self.word(word)?;
-        self.end_line()
-    }
-
-    fn statement(&mut self) -> Result<(), AllocError> {
-        match self.random.below(10) {
-            0 => {
-                self.word("const")?;
-                self.register()?;
-                let number = self.random.number();
-                self.number(number)?;
-            }
-            1 => {
-                self.word("read")?;
-                self.register()?;
-                self.cell()?;
-            }
-            2 => {
-                self.word("write")?;
-                self.cell()?;
-                self.operand()?;
-            }
-            3 => {
-                self.word("add")?;
-                self.register()?;
-                self.operand()?;
-            }
-            4 => {
-                self.word("sub")?;
-                self.register()?;
-                self.operand()?;
-            }
-            5 => {
-                self.word("print")?;
-                self.operand()?;
-            }
-            _ => return self.other_statement(),
+    // A word of this kind: a register, a number, either of them, a reference, a code, a worker, a phase, or itself.
+    fn word_of(&mut self, kind: &str) -> Result<(), AllocError> {
+        if kind == "R" || (kind == "X" && self.random.is_time(2)) {
+            return self.register();
         }
-        self.end_line()
-    }
-
-    fn other_statement(&mut self) -> Result<(), AllocError> {
-        match self.random.below(4) {
-            0 => {
-                self.word("check")?;
-                self.operand()?;
-                self.operand()?;
-                let code = 1 + self.random.below(65_535);
-                self.number(code)?;
-            }
-            1 => {
-                self.word("need")?;
-                self.operand()?;
-                self.operand()?;
-            }
-            2 => {
-                self.word("move")?;
-                self.cell()?;
-                self.cell()?;
-                self.operand()?;
-            }
-            _ => {
-                self.word("hook")?;
+        let number = match kind {
+            "N" | "X" => self.random.number(),
+            "A" => self.random.below(self.refs.max(1)),
+            "C" => 1 + self.random.below(65_535),
+            "W" => 1 + self.random.below(self.workers.clamp(1, 16)),
+            "P" => {
                 let phase = self.random.pick(PHASES);
-                self.word(phase)?;
-                let token = self.random.number();
-                self.number(token)?;
+                return self.word(phase);
             }
+            _ => return self.word(kind),
+        };
+        self.number(number)
+    }
+
+    // A line of this form.
+    fn line(&mut self, form: &str) -> Result<(), AllocError> {
+        for kind in form.split(' ') {
+            self.word_of(kind)?;
         }
         self.end_line()
+    }
+
+    fn open(&mut self, block: Opened, form: &str) -> Result<(), AllocError> {
+        self.opened.push(block)?;
+        self.line(form)
     }
 
     // The innermost block ends, an `either` with two parts at least.
@@ -281,33 +234,22 @@ impl Draft {
                 self.opened.push(Opened::Other)?;
                 Ok(())
             }
-            Some(_) => {
-                self.opened.push(Opened::MoreParts)?;
-                self.line("or")
-            }
+            Some(_) => self.open(Opened::MoreParts, "or"),
         }
     }
 
     // A line of a script.
     fn inside(&mut self) -> Result<(), AllocError> {
         match self.random.below(10) {
-            0 => {
-                self.opened.push(Opened::Other)?;
-                self.word("inner")?;
-                self.register()?;
-                self.end_line()
-            }
-            1 => {
-                self.opened.push(Opened::OnePart)?;
-                self.line("either")
-            }
-            2 => {
-                self.opened.push(Opened::Other)?;
-                self.line("late")
-            }
+            0 => self.open(Opened::Other, "inner R"),
+            1 => self.open(Opened::OnePart, "either"),
+            2 => self.open(Opened::Other, "late"),
             3 => self.close(),
             4 => self.part(),
-            _ => self.statement(),
+            _ => {
+                let form = self.random.pick(STATEMENTS);
+                self.line(form)
+            }
         }
     }
 
@@ -337,32 +279,26 @@ impl Draft {
             if self.random.is_time(3) {
                 self.word("ref")?;
                 self.number(cell)?;
-                let value = self.random.number();
-                self.number(value)?;
-                self.end_line()?;
+                self.line("N")?;
             }
         }
         Ok(())
     }
 
     fn steps(&mut self) -> Result<(), AllocError> {
-        let workers = self.workers;
-        if workers == 0 {
+        if self.workers == 0 {
             return Ok(());
         }
         self.word("steps")?;
-        let count = 1 + self.random.below(40);
+        let count = self.random.below(40);
         for _ in 0..count {
-            let worker = self.random.below(workers);
-            self.number(worker.saturating_add(1))?;
+            self.word_of("W")?;
         }
-        self.end_line()
+        self.line("W")
     }
 
     fn job(&mut self) -> Result<(), AllocError> {
-        self.word("stm")?;
-        self.word("1")?;
-        self.end_line()?;
+        self.line("stm 1")?;
         self.word("refs")?;
         self.number(self.refs)?;
         self.end_line()?;
@@ -379,7 +315,7 @@ impl Draft {
 }
 
 /// A text, and the numbers that come next.
-pub fn random_text(alloc: Global, random: Random) -> Result<(Vec<u8>, Random), AllocError> {
+pub(crate) fn random_text(alloc: Global, random: Random) -> Result<(Vec<u8>, Random), AllocError> {
     let mut random = random;
     let refs = if random.is_time(8) {
         0

@@ -1,11 +1,9 @@
 //! What the top call answers and writes.
 ghost use Rattle.std.specs.Prelude.{◌≤◌};
 
-use crate::written::text_of;
 use ledger_host::{HostStatus, host_plain};
 use ledger_model::Reason;
 use std::alloc::{AllocError, Global};
-use std::process::Abort;
 use std::test::Fail;
 use stm_io::{MemSink, MemSource};
 
@@ -24,18 +22,28 @@ fn words_of(alloc: Global, line: &str) -> Result<Vec<String>, AllocError> {
     Ok(words)
 }
 
+// A call over this source and this sink.
+fn tell_over(
+    alloc: Global,
+    line: &str,
+    mut source: MemSource,
+    mut sink: MemSink,
+) -> Result<Told, AllocError> {
+    let words = words_of(alloc, line)?;
+    let status = host_plain(alloc, &words, &mut source, &mut sink);
+    let report = Vec::from_slice(alloc, sink.bytes())?;
+    Ok(Told { status, report })
+}
+
 // A call on a text that comes in pieces of so many bytes.
 fn tell(alloc: Global, line: &str, text: &[u8], piece: usize) -> Result<Told, AllocError>
     requires { 1 ≤ piece }
 {
-    let words = words_of(alloc, line)?;
-    let mut source = MemSource::new(Vec::from_slice(alloc, text)?, piece, Vec::new(alloc));
-    let Ok(mut sink) = MemSink::new(alloc, 1 << 20, 4096, Vec::new(alloc)) else {
-        return Err(AllocError);
-    };
-    let status = host_plain(alloc, &words, &mut source, &mut sink);
-    let report = Vec::from_slice(alloc, sink.bytes())?;
-    Ok(Told { status, report })
+    let source = MemSource::new(Vec::from_slice(alloc, text)?, piece, Vec::new(alloc));
+    match MemSink::new(alloc, 1 << 20, 4096, Vec::new(alloc)) {
+        Ok(sink) => tell_over(alloc, line, source, sink),
+        Err(_) => Err(AllocError),
+    }
 }
 
 const NOTHING: &[u8] = b"stm 1\n";
@@ -88,138 +96,32 @@ fn other_words_are_usage(rt: HostRuntime) -> Result<(), Fail> {
     Ok(())
 }
 
-// Each text is refused with this line and reason, and nothing is written.
-fn are_refused(rt: &impl Abort, alloc: Global, texts: &[(u64, Reason, &str)]) -> Result<(), Fail> {
-    for (line, reason, lines) in texts {
-        let told = tell(alloc, "trace", &text_of(alloc, lines)?, 4096)?;
-        let refused = HostStatus::Script {
-            line: *line,
-            reason: *reason,
-        };
-        assert_eq!(rt; told.status, refused, "at {lines}");
-        assert_eq!(rt; told.report.as_slice(), [].as_slice());
+// A call on the empty job, whose source and sink fail at these calls.
+fn tell_failing(alloc: Global, reads: Vec<u64>, writes: Vec<u64>) -> Result<Told, AllocError> {
+    let source = MemSource::new(Vec::from_slice(alloc, NOTHING)?, 4, reads);
+    match MemSink::new(alloc, 100, 8, writes) {
+        Ok(sink) => tell_over(alloc, "trace", source, sink),
+        Err(_) => Err(AllocError),
     }
-    Ok(())
-}
-
-#[test]
-fn a_text_that_is_no_job_is_refused_by_line_and_reason(rt: HostRuntime) -> Result<(), Fail> {
-    let texts = [
-        (1, Reason::Head, ""),
-        (1, Reason::Head, "stm 2"),
-        (2, Reason::Word, "stm 1 / jump"),
-        (2, Reason::Unbuilt, "stm 1 / maps 1"),
-        (4, Reason::Order, "stm 1 / refs 1 / ref 0 5 / ref 0 6"),
-        (
-            6,
-            Reason::Order,
-            "stm 1 / worker / script / either / print 1 / end / end",
-        ),
-        (3, Reason::Range, "stm 1 / worker / steps 2"),
-        (2, Reason::Range, "stm 1 / refs 65537"),
-        (2, Reason::Byte, "stm 1 / \tworker"),
-        (4, Reason::Unclosed, "stm 1 / worker / script"),
-    ];
-    are_refused(&rt, rt.alloc(), &texts)
-}
-
-#[test]
-fn what_is_read_and_not_run_yet_is_unbuilt_on_its_first_line(rt: HostRuntime) -> Result<(), Fail> {
-    let texts = [
-        (3, Reason::Unbuilt, "stm 1 / worker / steps 1 / steps 1"),
-        (
-            6,
-            Reason::Unbuilt,
-            "stm 1 / # check / worker / script / print 1 / check 1 2 3 / end",
-        ),
-        (
-            4,
-            Reason::Unbuilt,
-            "stm 1 / worker / script / need 1 1 / check 1 1 1 / end",
-        ),
-        (
-            5,
-            Reason::Unbuilt,
-            "stm 1 / refs 2 / worker / script /   move 0 1 1 / end / steps 1",
-        ),
-        (
-            5,
-            Reason::Unbuilt,
-            "stm 1 / worker / script /  / inner r0 / late / end / end / end",
-        ),
-        (
-            4,
-            Reason::Unbuilt,
-            "stm 1 / worker / script / either / inner r0 / end / or / end / end",
-        ),
-        (
-            4,
-            Reason::Unbuilt,
-            "stm 1 / worker / script / late / print 1 / end / end",
-        ),
-        (
-            4,
-            Reason::Unbuilt,
-            "stm 1 / worker / script / hook commit 1 / end / steps 1",
-        ),
-    ];
-    are_refused(&rt, rt.alloc(), &texts)
-}
-
-#[test]
-fn every_other_reason_comes_before_what_is_not_run_yet(rt: HostRuntime) -> Result<(), Fail> {
-    let texts = [
-        (
-            9,
-            Reason::Range,
-            "stm 1 / refs 1 / worker / script / inner r0 / print 1 / end / end / steps 2",
-        ),
-        (
-            7,
-            Reason::Unclosed,
-            "stm 1 / worker / script / late / print 1 / end",
-        ),
-        (
-            4,
-            Reason::Unbuilt,
-            "stm 1 / worker / script / put 0 1 2 / inner r0",
-        ),
-        (
-            5,
-            Reason::Unbuilt,
-            "stm 1 / worker / script / inner r0 / put 0 1 2",
-        ),
-        (4, Reason::Byte, "stm 1 / worker / steps 1 / \t"),
-    ];
-    are_refused(&rt, rt.alloc(), &texts)
 }
 
 #[test]
 fn a_failing_source_writes_nothing(rt: HostRuntime) -> Result<(), Fail> {
     let alloc = rt.alloc();
-    let failing = vec![in alloc; 2]?;
-    let mut source = MemSource::new(Vec::from_slice(alloc, NOTHING)?, 4, failing);
-    let mut sink = MemSink::new(alloc, 100, 8, Vec::new(alloc)).expect(&rt, "room");
-    let words = words_of(alloc, "trace")?;
-    let status = host_plain(alloc, &words, &mut source, &mut sink);
-    assert_eq!(rt; status, HostStatus::ReadFault);
-    assert_eq!(rt; sink.bytes(), [].as_slice());
+    let told = tell_failing(alloc, vec![in alloc; 2]?, Vec::new(alloc))?;
+    assert_eq!(rt; told.status, HostStatus::ReadFault);
+    assert_eq!(rt; told.report.as_slice(), [].as_slice());
     Ok(())
 }
 
 #[test]
 fn a_failing_sink_holds_a_front_of_the_report(rt: HostRuntime) -> Result<(), Fail> {
     let alloc = rt.alloc();
-    let mut source = MemSource::new(Vec::from_slice(alloc, NOTHING)?, 4, Vec::new(alloc));
-    let failing = vec![in alloc; 2]?;
-    let mut sink = MemSink::new(alloc, 100, 8, failing).expect(&rt, "room");
-    let words = words_of(alloc, "trace")?;
-    let status = host_plain(alloc, &words, &mut source, &mut sink);
-    assert_eq!(rt; status, HostStatus::WriteFault);
-    assert_eq!(rt; sink.bytes(), b"ledger 1".as_slice());
+    let told = tell_failing(alloc, Vec::new(alloc), vec![in alloc; 2]?)?;
+    assert_eq!(rt; told.status, HostStatus::WriteFault);
+    assert_eq!(rt; told.report.as_slice(), b"ledger 1".as_slice());
     Ok(())
 }
-
 // A job of one script that prints 0 so often, the last time as `word`.
 fn prints(alloc: Global, count: usize, word: &[u8]) -> Result<Vec<u8>, AllocError> {
     let mut text = Vec::from_slice(alloc, b"stm 1\nworker\nscript\n")?;
