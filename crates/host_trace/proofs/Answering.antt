@@ -1,10 +1,11 @@
 -- What comes of a script that is given an answer.
 use Rattle.std.proofs.Common.{◌≡◌, ◌≤◌, ◌<◌, ◌^◌, ◌⊎◌, inl, inr, ℕ, Bool, true, false, if◌then◌else◌, List, [], length, Option, Some, None, ap, sym, ◌∙◌, refl, subst, arith}
+use Rattle.std.specs.Option.{option_map_or}
 use Rattle.stm_model.specs.World.{IsCaller}
 use Rattle.stm_model.specs.declared.law.Free.{Free}
 use Rattle.ledger_model.specs.Allowed.{Footing, IsAllowed}
 use Rattle.ledger_model.specs.Talk.{Talk, Over, Says, Asks, Ends}
-use Rattle.ledger_model.specs.Traced.{Trace, answer_at, answer_in, attempt_in as attempt_at, goes_on, if_answered, speaks}
+use Rattle.ledger_model.specs.Traced.{Trace, answer_at, answer_in, attempt_in as attempt_at, goes_on, speaks}
 use Rattle.script_cursor.specs.Cursors.{after, is_over, talk_of}
 use Rattle.world_run.specs.Simulation.{Simulation, attempt_in, terms_in}
 use Rattle.world_run.proofs.Seats.{none_changed}
@@ -43,7 +44,7 @@ module _ (p : ℕ) (c : Simulation Free) (before mid : Flight) (answer : ℕ) (e
     said_on s awaits caller =
         let there : answer_in s p ≡ Some answer = ap (λ t. answer_at t.stage) (awaits.follows.shows.attempts p caller) ∙ loud in
         let rest : talk_of mid.cursor ≡ (s.progress p).rest answer = heard.talk ∙ sym (awaits.rest answer) in
-        ap (λ (talk : Talk). speaks p talk s) rest ∙ sym (ap (λ (found : Option ℕ). if_answered found (λ answer. speaks p ((s.progress p).rest answer) s) s) there)
+        ap (λ (talk : Talk). speaks p talk s) rest ∙ sym (ap (λ (found : Option ℕ). option_map_or (λ answer. speaks p ((s.progress p).rest answer) s) found s) there)
 
     pub goes_leads : IsCaller (terms_in c) p → Leads p c d (AwaitsIn p c before) (AwaitsIn p d last) (goes_on p) done
     goes_leads caller = record {
@@ -61,5 +62,5 @@ goes_nowhere p c flight caller quiet = record {
   same = same_none p c;
   follows = λ s awaits.
       let there : answer_in s p ≡ None = ap (λ t. answer_at t.stage) (awaits.follows.shows.attempts p caller) ∙ quiet in
-      record { trace = s; after = awaits; leads = sym (ap (λ (found : Option ℕ). if_answered found (λ answer. speaks p ((s.progress p).rest answer) s) s) there) };
+      record { trace = s; after = awaits; leads = sym (ap (λ (found : Option ℕ). option_map_or (λ answer. speaks p ((s.progress p).rest answer) s) found s) there) };
 }

@@ -1,5 +1,6 @@
 -- What comes of an attempt that is asked, whose before-commit body is over, or that gives up.
 use Rattle.std.proofs.Common.{◌≡◌, ◌≤◌, ◌<◌, ◌⊎◌, inl, inr, ℕ, Bool, true, false, List, [], ◌∷◌, ◌++◌, length, Option, Some, None, IsSome, ap, sym, ◌∙◌, refl, subst, arith}
+use Rattle.std.specs.Option.{option_map_or}
 use Rattle.opacity.proofs.Places.{replaced_here}
 use Rattle.stm_core.specs.Machine.{next_of}
 use Rattle.stm_model.specs.Accesses.{next_at, unless_due}
@@ -13,7 +14,7 @@ use Rattle.stm_model.specs.declared.cause.Cause.{Cause}
 use Rattle.stm_model.specs.declared.cause.Cause.TheVariants.{Memory}
 use Rattle.stm_model.specs.declared.law.Free.{Free}
 use Rattle.ledger_model.specs.Talk.{Talk}
-use Rattle.ledger_model.specs.Traced.{Progress, Trace, all_done, answer_at, asked, attempt_in as attempt_at, due_done, gives_up, gives_up_at, happens, requested, returned, with_progress}
+use Rattle.ledger_model.specs.Traced.{Progress, Trace, all_done, answer_at, asked, attempt_in as attempt_at, due_done, gives_up, happens, requested, returned, with_progress}
 use Rattle.world_run.specs.Simulation.{Simulation, IsAskable, IsSameOf, attempt_in, terms_in}
 use Rattle.stm_model.specs.declared.ending.Ending.TheVariants.{Rolled}
 use Rattle.world_run.proofs.Seats.{none_changed}
@@ -158,10 +159,9 @@ rolled_rolls t cause none is = go t.now.writes
     go [] = record { refused = refused; ends = refl; makes = subst (λ (dues : List Due). IsSome (unless_due dues (next_at (record t { ending = Some (Rolled cause t.prefix); stage = Close }) Close))) (sym none) (closes (record t { ending = Some (Rolled cause t.prefix); stage = Close })) }
     go (write ∷ behind) = record { refused = refused; ends = refl; makes = subst (λ (dues : List Due). IsSome (unless_due dues (next_at (record t { ending = Some (Rolled cause t.prefix); stage = RollBack write behind }) (RollBack write behind)))) (sym none) (rolls_back (record t { ending = Some (Rolled cause t.prefix); stage = RollBack write behind }) write behind) }
 
-gives_none : (p : ℕ) (stage : Stage) (s : Trace) → cause_at stage ≡ None → gives_up_at stage p s ≡ s
-unfolding cause_at
-gives_none p (Stopped cause) s is = cc
-gives_none p stage s is = refl
+-- what a refusal makes of a trace
+abbrev given_up : ℕ → Trace → Option Cause → Trace
+given_up p s cause = option_map_or (λ cause. happens (Moves p (Takes (Abandon cause))) s) cause s
 
 module _ (p : ℕ) {c : Simulation Free} (caller : IsCaller (terms_in c) p) where
   -- It waits for no one.
@@ -171,7 +171,7 @@ module _ (p : ℕ) {c : Simulation Free} (caller : IsCaller (terms_in c) p) wher
     same = same_none p c;
     follows = λ s before.
         let here = before.follows.shows.attempts p caller in
-        record { trace = s; after = before; leads = sym (gives_none p (attempt_at s p).stage s (ap (λ (t : Attempt). cause_at t.stage) here ∙ calm)) };
+        record { trace = s; after = before; leads = sym (ap (given_up p s) (ap (λ (t : Attempt). cause_at t.stage) here ∙ calm)) };
   }
 
   module _ {d : Simulation Free} (cause : Cause) (none : (attempt_in c p).due ≡ []) (is : cause_at (attempt_in c p).stage ≡ Some cause)
@@ -193,7 +193,6 @@ module _ (p : ℕ) {c : Simulation Free} (caller : IsCaller (terms_in c) p) wher
           same = same;
           follows = λ s before.
               let here = before.follows.shows.attempts p caller in
-              let stage : (attempt_at s p).stage ≡ Stopped cause = ap (λ (t : Attempt). t.stage) here ∙ refused_at (attempt_in c p).stage cause is in
               record {
                 trace = happens (Moves p (Takes (Abandon cause))) s;
                 after = record {
@@ -204,6 +203,6 @@ module _ (p : ℕ) {c : Simulation Free} (caller : IsCaller (terms_in c) p) wher
                   };
                   rest = before.rest;
                 };
-                leads = sym (ap (λ (there : Stage). gives_up_at there p s) stage);
+                leads = sym (ap (given_up p s) (ap (λ (t : Attempt). cause_at t.stage) here ∙ is));
               };
         }

@@ -1,8 +1,8 @@
 -- The first worker that passes a test, along the workers one after another. Here a is the next of them and n the last.
 use Rattle.std.proofs.Common.{◌≡◌, inl, inr, ℕ, zero, suc, ◌+◌, ◌-◌, ◌<◌, ◌≤◌, Bool, true, false, if◌then◌else◌, List, [], ◌∷◌, Option, Some, None, refl, ap, sym, ◌∙◌, arith}
-use Rattle.std.specs.List.{range_with_len}
+use Rattle.std.specs.List.{find, range_with_len}
+use Rattle.std.specs.Option.{option_or}
 use Rattle.std.proofs.lemmas.Bool.{cases_eq}
-use Rattle.ledger_model.specs.Traced.{first_where, or_first}
 
 -- those from a on
 abbrev pub from_on : ℕ → ℕ → List ℕ
@@ -19,27 +19,27 @@ from_none a n past =
     ap (λ (k : ℕ). range_with_len a k) none
 
 module _ (test : ℕ → Bool) (a n : ℕ) where
-  pub first_here : a ≤ n → test a ≡ true → Some a ≡ first_where test (from_on a n)
+  pub first_here : a ≤ n → test a ≡ true → Some a ≡ find test (from_on a n)
   first_here within passes =
-      sym (ap (λ (ps : List ℕ). first_where test ps) (from_more a n within) ∙ ap (λ (b : Bool). if b then Some a else first_where test (from_on (a + 1) n)) passes)
+      sym (ap (λ (ps : List ℕ). find test ps) (from_more a n within) ∙ ap (λ (b : Bool). if b then Some a else find test (from_on (a + 1) n)) passes)
 
-  pub first_later : a ≤ n → test a ≡ false → first_where test (from_on a n) ≡ first_where test (from_on (a + 1) n)
+  pub first_later : a ≤ n → test a ≡ false → find test (from_on a n) ≡ find test (from_on (a + 1) n)
   first_later within fails =
-      ap (λ (ps : List ℕ). first_where test ps) (from_more a n within) ∙ ap (λ (b : Bool). if b then Some a else first_where test (from_on (a + 1) n)) fails
+      ap (λ (ps : List ℕ). find test ps) (from_more a n within) ∙ ap (λ (b : Bool). if b then Some a else find test (from_on (a + 1) n)) fails
 
-  pub first_none : n + 1 ≤ a → first_where test (from_on a n) ≡ None
-  first_none past = ap (λ (ps : List ℕ). first_where test ps) (from_none a n past)
+  pub first_none : n + 1 ≤ a → find test (from_on a n) ≡ None
+  first_none past = ap (λ (ps : List ℕ). find test ps) (from_none a n past)
 
 -- Where none of them passes, this one doesn't.
-pub fails_at : (test : ℕ → Bool) (a n p : ℕ) → first_where test (range_with_len a n) ≡ None → a ≤ p → p < a + n → test p ≡ false
+pub fails_at : (test : ℕ → Bool) (a n p : ℕ) → find test (range_with_len a n) ≡ None → a ≤ p → p < a + n → test p ≡ false
 fails_at test a zero p none from less = absurd (omega arith)
 fails_at test a (suc n) p none from less =
     go (test a) refl none (λ none from less. fails_at test (a + 1) n p none from less) where
-      go : (b : Bool) → test a ≡ b → (if b then Some a else first_where test (range_with_len (a + 1) n)) ≡ None
-          → (first_where test (range_with_len (a + 1) n) ≡ None → a + 1 ≤ p → p < a + 1 + n → test p ≡ false) → test p ≡ false
+      go : (b : Bool) → test a ≡ b → (if b then Some a else find test (range_with_len (a + 1) n)) ≡ None
+          → (find test (range_with_len (a + 1) n) ≡ None → a + 1 ≤ p → p < a + 1 + n → test p ≡ false) → test p ≡ false
       go true is none later = cc
       go false is none later = elim (cases_eq a p) [ inl same ↦ ap test (sym same) ∙ is | inr other ↦ later none (omega arith) (omega arith) ]
 
-pub first_is_none : (first second : Option ℕ) → or_first first second ≡ None → first ≡ None
+pub first_is_none : (first second : Option ℕ) → option_or first second ≡ None → first ≡ None
 first_is_none None second none = refl
 first_is_none (Some p) second none = cc

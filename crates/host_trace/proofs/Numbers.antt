@@ -1,11 +1,10 @@
 -- What the end of a worker's attempt leaves of the rows and the rolled lines of others, and the numbers of its rows. Here p is the worker, s and u are traces, before and after.
-use Rattle.std.proofs.Common.{◌≡◌, ◌≢◌, inl, inr, ℕ, zero, suc, ◌+◌, add-zero, Bool, true, false, nat_eq, cond, List, [], ◌∷◌, ◌++◌, length, map, Option, Some, None, refl, ap, sym, subst, ◌∙◌, arith}
+use Rattle.std.proofs.Common.{◌≡◌, ◌≢◌, inl, inr, ℕ, zero, suc, ◌+◌, add-zero, Bool, true, false, nat_eq, cond, if◌then◌else◌, List, [], ◌∷◌, ◌++◌, length, map, Option, Some, None, refl, ap, sym, subst, ◌∙◌, arith}
 use Rattle.std.specs.List.{filter, range_with_len}
 use Rattle.std.proofs.lemmas.Bool.{cases_eq}
 use Rattle.std.proofs.lemmas.Bool.Decides.{nat_tests}
 use Rattle.std.proofs.lemmas.List.{append-nil, length_push, map-append}
 use Rattle.std.proofs.lemmas.List.Elements.{filter-append}
-use Rattle.stm_model.specs.Attempt.{Ended, Stage}
 use Rattle.stm_model.specs.declared.cause.Cause.{Cause}
 use Rattle.stm_model.specs.declared.cause.Cause.TheVariants.{ClockEnd, User}
 use Rattle.stm_model.specs.declared.ending.Ending.{Ending}
@@ -15,7 +14,7 @@ use Rattle.ledger_model.specs.declared.listing.Row.{Row}
 use Rattle.ledger_model.specs.declared.listing.RowResult.{RowResult}
 use Rattle.ledger_model.specs.declared.listing.RowResult.TheVariants.{Done, Fail, Spent}
 use Rattle.ledger_model.specs.Replays.{rolled_of, rows_of, settled_by}
-use Rattle.ledger_model.specs.Traced.{Progress, Trace, access, attempt_in, begins, ended_with, ends, ends_at, rolled_with, with_rolled, with_row}
+use Rattle.ledger_model.specs.Traced.{Progress, Trace, access, attempt_in, begins, ended_with, ends, is_flying, rolled_with, with_rolled, with_row}
 use Rattle.host_trace.specs.Flights.{flown}
 use Rattle.host_trace.specs.Tracings.{AreNumbered}
 use Rattle.host_trace.proofs.Others.{Stays, flown_stays}
@@ -123,9 +122,9 @@ module _ (p : ℕ) where
   ended_with_spares (Some (Read prefix)) s = with_row_spares prefix false Done (s.progress p).prints s
   ended_with_spares (Some (RolledBack cause prefix)) s = rolled_with_spares cause prefix s
 
-  ends_at_spares : (stage : Stage) (s : Trace) → Spares p s (ends_at stage p s)
-  ends_at_spares Ended s = ended_with_spares (attempt_in s p).ending s
-  ends_at_spares stage s = spares_none s
+  ends_spares : (flies : Bool) (s : Trace) → Spares p s (if flies then s else ended_with (attempt_in s p).ending p s)
+  ends_spares true s = spares_none s
+  ends_spares false s = ended_with_spares (attempt_in s p).ending s
 
   pub access_spares : (s : Trace) → Spares p s (access p s)
-  access_spares s = spares_on (stays_spares (flown_stays p s)) (ends_at_spares (attempt_in (flown p s) p).stage (flown p s))
+  access_spares s = spares_on (stays_spares (flown_stays p s)) (ends_spares (is_flying (flown p s) p) (flown p s))

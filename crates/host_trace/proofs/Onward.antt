@@ -1,9 +1,10 @@
 -- Turns one after another. Here s is a trace.
 use Rattle.std.proofs.Common.{◌≡◌, ℕ, zero, suc, ◌+◌, ◌<◌, List, [], ◌∷◌, ◌++◌, length, get_or, take, Option, Some, refl, ap, sym, subst, ◌∙◌, Bor}
+use Rattle.std.specs.Option.{option_map_or}
 use Rattle.std.proofs.lemmas.List.{take_more}
 use Rattle.stm_model.specs.declared.settings.Settings.{Settings}
 use Rattle.ledger_model.specs.declared.job.Job.{Job}
-use Rattle.ledger_model.specs.Traced.{Trace, onward, turn, turn_of, turns, whose}
+use Rattle.ledger_model.specs.Traced.{Trace, onward, turn, turns, whose}
 use Rattle.host_trace.specs.declared.trace.Tracing.{Tracing}
 use Rattle.host_trace.specs.Tracings.{ComesTo, GoesOn, IsTracing, Traces, TracesOn}
 use Rattle.host_trace.proofs.Beginning.{traces_as, traces_on}
@@ -14,7 +15,7 @@ module _ (job : Job) (settings : Settings) where
   turns_more (q ∷ ps) p s = turns_more ps p (turn job settings q s)
 
   abbrev next : Trace → Trace
-  next s = turn_of job settings (whose job settings s) s
+  next s = option_map_or (λ p. turn job settings p s) (whose job settings s) s
 
   onward_more : (n : ℕ) (s : Trace) → next (onward job settings n s) ≡ onward job settings (suc n) s
   unfolding onward
@@ -44,8 +45,8 @@ module _ {t : Tracing} where
         let here = onward t.job.now u.settings come.count s in
         let turned : Traces after (turn u.job.now u.settings p here) = on.traces here come.traces in
         let same : turn u.job.now u.settings p here ≡ onward t.job.now u.settings (suc come.count) s =
-        ap (λ (mine : Option ℕ). turn_of u.job.now u.settings mine here) (mine here come.traces)
-        ∙ ap (λ (job : Job). turn_of job u.settings (whose job u.settings here) here) (ap (λ (job : Bor Job). job.now) goes.job)
+        ap (λ (mine : Option ℕ). option_map_or (λ p. turn u.job.now u.settings p here) mine here) (mine here come.traces)
+        ∙ ap (λ (job : Job). next job u.settings here) (ap (λ (job : Bor Job). job.now) goes.job)
         ∙ onward_more t.job.now u.settings come.count s in
         record {
           count = suc come.count;

@@ -1,9 +1,10 @@
 -- What a worker's attempt leaves as it is: the rows and the rolled lines until it ends, and always the attempts of all others. Here p is the worker, s and u are traces, before and after.
 use Rattle.std.proofs.Common.{◌≡◌, ◌≢◌, ℕ, List, [], ◌∷◌, Option, Some, None, refl, ap, ◌∙◌}
+use Rattle.std.specs.Option.{option_map_or}
 use Rattle.opacity.specs.Effects.{caller_of}
 use Rattle.opacity.proofs.Effects.{others_views}
 use Rattle.opacity.proofs.Places.{replaced_else}
-use Rattle.stm_model.specs.Attempt.{Attempt, Due, Stage, Stopped}
+use Rattle.stm_model.specs.Attempt.{Attempt, Due, cause_at}
 use Rattle.stm_model.specs.Moves.{Does, EndsLate, Takes}
 use Rattle.stm_model.specs.World.{Event, Moves, Steps, View, World, attempt_of, happened}
 use Rattle.stm_model.specs.declared.access.Ask.{Ask}
@@ -11,7 +12,7 @@ use Rattle.stm_model.specs.declared.access.Ask.TheVariants.{Abandon}
 use Rattle.ledger_model.specs.declared.listing.Rolled.{Rolled}
 use Rattle.ledger_model.specs.declared.listing.Row.{Row}
 use Rattle.ledger_model.specs.Talk.{Talk, Over, Says, Asks, Ends}
-use Rattle.ledger_model.specs.Traced.{Progress, Trace, all_done, answer_in, asked, attempt_in, due_done, gives_up, gives_up_at, goes_on, happens, if_answered, requested, returned, said, speaks, with_progress}
+use Rattle.ledger_model.specs.Traced.{Progress, Trace, all_done, answer_in, asked, attempt_in, due_done, gives_up, goes_on, happens, requested, returned, said, speaks, with_progress}
 use Rattle.host_trace.specs.Flights.{flown}
 
 -- The rows and the rolled lines are as before, and so is all that is of other workers.
@@ -52,9 +53,9 @@ module _ (p : ℕ) where
   due_done_stays : (s : Trace) → Stays p s (due_done p s)
   due_done_stays s = all_done_stays (attempt_in s p).due s
 
-  if_stays : (answer : Option ℕ) (next : ℕ → Trace) (s u : Trace) → Stays p s u → ((n : ℕ) → Stays p u (next n)) → Stays p s (if_answered answer next u)
+  if_stays : {X : Type 0} (found : Option X) (next : X → Trace) (s u : Trace) → Stays p s u → ((x : X) → Stays p u (next x)) → Stays p s (option_map_or next found u)
   if_stays None next s u first then = first
-  if_stays (Some n) next s u first then = stays_on first (then n)
+  if_stays (Some x) next s u first then = stays_on first (then x)
 
   requested_stays : (ask : Ask) (rest : ℕ → Talk) (s : Trace) → Stays p s (requested p ask rest s)
   requested_stays ask rest s =
@@ -80,13 +81,13 @@ module _ (p : ℕ) where
   goes_on_stays s =
       if_stays (answer_in s p) (λ answer. speaks p ((s.progress p).rest answer) s) s s (stays_none s) (λ answer. speaks_stays ((s.progress p).rest answer) s)
 
-  gives_up_at_stays : (stage : Stage) (s : Trace) → Stays p s (gives_up_at stage p s)
-  gives_up_at_stays (Stopped cause) s = happens_stays (Moves p (Takes (Abandon cause))) s refl
-  gives_up_at_stays stage s = stays_none s
+  gives_up_stays : (s : Trace) → Stays p s (gives_up p s)
+  gives_up_stays s =
+      if_stays (cause_at (attempt_in s p).stage) (λ cause. happens (Moves p (Takes (Abandon cause))) s) s s (stays_none s) (λ cause. happens_stays (Moves p (Takes (Abandon cause))) s refl)
 
   pub flown_stays : (s : Trace) → Stays p s (flown p s)
   flown_stays s =
       let first = happens (Steps p) s in
       let second = due_done p first in
       let third = goes_on p second in
-      stays_on (happens_stays (Steps p) s refl) (stays_on (due_done_stays first) (stays_on (goes_on_stays second) (gives_up_at_stays (attempt_in third p).stage third)))
+      stays_on (happens_stays (Steps p) s refl) (stays_on (due_done_stays first) (stays_on (goes_on_stays second) (gives_up_stays third)))

@@ -1,5 +1,6 @@
 -- What comes of what a script says, request by request.
 use Rattle.std.proofs.Common.{◌≡◌, ◌≤◌, ◌<◌, ◌^◌, ◌*◌, ◌+◌, ℕ, Bool, true, false, if◌then◌else◌, List, [], ◌∷◌, length, Option, Some, None, IsSome, IsTrue, IsFalse, MatchOption, MatchBool, ap, sym, ◌∙◌, refl, subst, arith}
+use Rattle.std.specs.Option.{option_map_or}
 use Rattle.stm_core.specs.Machine.{next_of}
 use Rattle.stm_model.specs.Attempt.{Attempt, Late, Ready, ReleaseLevel, Stage}
 use Rattle.stm_model.specs.CellsState.{Book, returned}
@@ -9,7 +10,7 @@ use Rattle.stm_model.specs.declared.access.Ask.{Ask}
 use Rattle.stm_model.specs.declared.law.Free.{Free}
 use Rattle.ledger_model.specs.Allowed.{Footing, IsAllowed}
 use Rattle.ledger_model.specs.Talk.{Talk, Over, Says, Asks, Ends}
-use Rattle.ledger_model.specs.Traced.{Progress, Trace, answer_at, answer_in, if_answered, requested, returned as body_returned, said, speaks, with_progress}
+use Rattle.ledger_model.specs.Traced.{Progress, Trace, answer_at, answer_in, requested, returned as body_returned, said, speaks, with_progress}
 use Rattle.script_cursor.specs.Cursors.{after, coming_of, is_over, left, talk_of}
 use Rattle.script_cursor.specs.declared.coming.Coming.{Coming}
 use Rattle.script_cursor.specs.declared.coming.Coming.TheVariants as coming
@@ -111,11 +112,15 @@ module _ (p : ℕ) (c : Simulation Free) (before after_ : Flight) where
 -- This came of what the script said, and the rest follows what is answered then.
 module _ (p : ℕ) {c d : Simulation Free} (caller : IsCaller (terms_in c) p) (before mid : Flight) (cursor : mid.cursor ≡ before.cursor) (answered : before.answered ≡ true)
     (answered_then : mid.answered ≡ before.answered) (talk : Talk) (is : talk_of before.cursor ≡ talk) (rest : ℕ → Talk) (follows : (answer : ℕ) → after talk answer ≡ rest answer) (this : Trace → Trace)
-    (answers : (s : Trace) → speaks p talk s ≡ if_answered (answer_in (this s) p) (λ answer. speaks p (rest answer) (this s)) (this s))
+    (answers : (s : Trace) → speaks p talk s ≡ option_map_or (λ answer. speaks p (rest answer) (this s)) (answer_in (this s) p) (this s))
     (leads : Leads p c d (Follows p c before.said) (Awaits p d mid.said rest) this done) (none : (attempt_in d p).due ≡ [])
     (expected : Expects (length c.opening) (attempt_in d p) rest) (going : is_over talk ≡ false) (shown : IsShown d) where
   abbrev stage : Stage
   stage = (attempt_in d p).stage
+
+  -- the script goes on with the answer, where there is one
+  abbrev goes_with : Option ℕ → Trace → Trace
+  goes_with found s = option_map_or (λ answer. speaks p (rest answer) s) found s
 
   expects : Expects (length d.opening) (attempt_in d p) rest
   expects = subst (λ (opening : List ℕ). Expects (length opening) (attempt_in d p) rest) (sym leads.terms.opening) expected
@@ -128,10 +133,9 @@ module _ (p : ℕ) {c d : Simulation Free} (caller : IsCaller (terms_in c) p) (b
 
   -- where there is an answer, and where there is none
   then_is : (answer : Option ℕ) → answer_at stage ≡ answer → (s : Trace) → Awaits p d mid.said rest s → (end : Trace) → s ≡ end
-      → if_answered answer (λ answer. speaks p (rest answer) s) s ≡ if_answered (answer_in end p) (λ answer. speaks p (rest answer) end) end
+      → goes_with answer s ≡ goes_with (answer_in end p) end
   then_is answer same s awaits end one =
-      subst (λ (t : Trace). if_answered answer (λ answer. speaks p (rest answer) s) s ≡ if_answered (answer_in t p) (λ answer. speaks p (rest answer) t) t) one
-      (ap (λ (found : Option ℕ). if_answered found (λ answer. speaks p (rest answer) s) s) (sym (answer_of s awaits ∙ same)))
+      subst (λ (t : Trace). goes_with answer s ≡ goes_with (answer_in t p) t) one (ap (λ (found : Option ℕ). goes_with found s) (sym (answer_of s awaits ∙ same)))
 
   before_said : (s : Trace) → speaks p (talk_of before.cursor) s ≡ speaks p talk s
   before_said s = ap (λ (each : Talk). speaks p each s) is

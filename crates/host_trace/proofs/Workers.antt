@@ -17,7 +17,7 @@ use Rattle.ledger_model.specs.declared.script.Script.{Script}
 use Rattle.ledger_model.specs.Allowed.{IsAllowed, first_footing}
 use Rattle.ledger_model.specs.Replays.{block_of, rolled_of, settled_by}
 use Rattle.ledger_model.specs.Talk.{talk}
-use Rattle.ledger_model.specs.Traced.{Progress, Trace, access, attempt_in as traced_attempt, begins, ended_with, ends, ends_at, fresh, has_left, rolled_with, with_rolled}
+use Rattle.ledger_model.specs.Traced.{Progress, Trace, access, attempt_in as traced_attempt, begins, ended_with, ends, fresh, has_left, rolled_with, with_rolled}
 use Rattle.script_cursor.specs.Cursors.{after, talk_of}
 use Rattle.world_run.specs.Simulation.{Simulation, Happens, IsOver, attempt_in, machine_at, terms_in}
 use Rattle.world_run.proofs.Seats.{caller_then}
@@ -58,11 +58,6 @@ ended_world (Some (Read prefix)) p s = refl
 ended_world (Some (RolledBack cause prefix)) p s = rolled_world cause p prefix s
 
 -- ---- an access
-
-ends_none : (stage : Stage) (p : ℕ) (s : Trace) → flies_at stage ≡ true → ends_at stage p s ≡ s
-unfolding flies_at
-ends_none Ended p s flies = cc
-ends_none stage p s flies = refl
 
 flies_unless_due : (t : Attempt) (stage : Stage) (dues : List Due) → IsSome (unless_due dues (next_at t stage)) → flies_at stage ≡ true
 unfolding flies_at next_at
@@ -105,7 +100,7 @@ module _ {p : ℕ} {c d : Simulation Free} (caller : IsCaller (terms_in c) p) (f
     works = λ job s works.
         let here : IsFlight job p c s flight = rw is at works.flight in
         let still : ends p (flown p s) ≡ flown p s =
-        ends_none (traced_attempt (flown p s) p).stage p (flown p s)
+        ap (λ (flies : Bool). if flies then flown p s else ended_with (traced_attempt (flown p s) p).ending p (flown p s))
         (ap (λ (t : Attempt). flies_at t.stage) (attempt_then s here.awaits) ∙ makes_flies (attempt_in d p) on.flies.makes) in
         subst (Works job p d rows (record worker { flight = Some after })) (sym still)
         (record {
@@ -132,7 +127,8 @@ module _ {p : ℕ} {c d : Simulation Free} (caller : IsCaller (terms_in c) p) (f
         let there = follows s here.awaits in
         let same = attempt_then s here.awaits in
         let over : ends p u ≡ ended_with (Some ending) p u =
-        ap (λ (t : Attempt). ends_at t.stage p u) same ∙ ap (λ (stage : Stage). ends_at stage p u) landed.over.ended
+        ap (λ (flies : Bool). if flies then u else ended_with (traced_attempt u p).ending p u)
+        (ap (λ (t : Attempt). flies_at t.stage) same ∙ ended_not (attempt_in d p).stage landed.over.ended)
         ∙ ap (λ (t : Attempt). ended_with t.ending p u) same ∙ ap (λ (ending : Option Ending). ended_with ending p u) landed.ends in
         subst (Works job p d rest last) (sym over)
         (record {

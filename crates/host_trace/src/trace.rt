@@ -1,10 +1,10 @@
 //! The workers' turns, under the written schedule and behind it.
-ghost use Rattle.std.specs.Prelude.{◌≡◌, ◌≤◌, [], IfOk, IfSome, None, OnOk, length, true, false};
+ghost use Rattle.std.specs.Prelude.{◌≡◌, ◌≤◌, [], IfOk, IfSome, None, OnOk, find, length, true, false};
 ghost use Rattle.std.specs.List.{All};
 ghost use Rattle.meta_word.specs.declared.status.TheConstants.{MAX_SERIAL};
 ghost use Rattle.stm_core.specs.Machine.{SettingsFit};
 ghost use Rattle.ledger_model.specs.Contents.{opening_contents};
-ghost use Rattle.ledger_model.specs.Traced.{IsTraced, MayBeTraced, Trace, access, begins, first_where, has_left, is_flying, is_parked, may_begin, turn, turns, whose, workers_of};
+ghost use Rattle.ledger_model.specs.Traced.{IsTraced, MayBeTraced, Trace, access, begins, has_left, is_flying, is_parked, may_begin, turn, turns, whose, workers_of};
 ghost use Rattle.host_trace.specs.Tracings.{GoesOn, IsNew, IsOverAll, IsTracing, IsWorker, Starts, Traces, TracesOn};
 
 use crate::answers::ending_in;
@@ -122,7 +122,7 @@ impl<'a> Tracing<'a> {
     // The first worker with an attempt in flight.
     fn first_flying(&self) -> Option<u16>
         requires { IsTracing self.now }
-        ensures told { (s : Trace) → Traces self.now s → result ≡ first_where (is_flying s) (workers_of self.now.job.now) }
+        ensures told { (s : Trace) → Traces self.now s → result ≡ find (is_flying s) (workers_of self.now.job.now) }
         ensures worker { IfSome result (IsWorker self.now.job.now) }
     {
         for worker in 1..self.workers.len() as u16 + 1 {
@@ -136,8 +136,8 @@ impl<'a> Tracing<'a> {
     // The first worker that may begin an attempt, where none is in flight.
     fn first_to_begin(&self) -> Option<u16>
         requires stands { IsTracing self.now }
-        requires rests { (s : Trace) → Traces self.now s → first_where (is_flying s) (workers_of self.now.job.now) ≡ None }
-        ensures told { (s : Trace) → Traces self.now s → result ≡ first_where (may_begin self.now.job.now self.now.settings s) (workers_of self.now.job.now) }
+        requires rests { (s : Trace) → Traces self.now s → find (is_flying s) (workers_of self.now.job.now) ≡ None }
+        ensures told { (s : Trace) → Traces self.now s → result ≡ find (may_begin self.now.job.now self.now.settings s) (workers_of self.now.job.now) }
         ensures worker { IfSome result (IsWorker self.now.job.now) }
     {
         for worker in 1..self.workers.len() as u16 + 1 {

@@ -1,7 +1,8 @@
 -- The listing that a written schedule gives: each number lets that worker's attempt make one access, and what the access brings about follows at once. Here s is the trace so far and p a worker.
-use Rattle.std.specs.Prelude.{◌≡◌, ◌^◌, ◌≤◌, max, ℕ, zero, suc, Bool, true, false, not, ◌&&◌, nat_eq, nat_lt, if◌then◌else◌, List, [], ◌∷◌, ◌++◌, length, map, filter, flat_map, drop, take, slice_index, unwrap_or, Option, Some, None, IsPermutation}
+use Rattle.std.specs.Prelude.{◌≡◌, ◌^◌, ◌≤◌, max, ℕ, zero, suc, Bool, true, false, not, ◌&&◌, nat_eq, nat_lt, if◌then◌else◌, List, [], ◌∷◌, ◌++◌, length, map, filter, flat_map, drop, take, find, slice_index, unwrap_or, Option, Some, None, IsPermutation}
 use Rattle.std.specs.List.{AllByRecursion, range_with_len}
-use Rattle.stm_model.specs.Attempt.{Attempt, Due, Ended, Late, Ready, Stage, Stopped, is_in_flight}
+use Rattle.std.specs.Option.{option_map_or, option_or}
+use Rattle.stm_model.specs.Attempt.{Attempt, Due, Late, Ready, Stage, cause_at, is_in_flight}
 use Rattle.stm_model.specs.Moves.{Begins, Does, EndsLate, Takes}
 use Rattle.stm_model.specs.World.{Event, Moves, Steps, Terms, World, attempt_of, happened, opened, replaced}
 use Rattle.stm_model.specs.declared.access.Ask.{Ask}
@@ -39,6 +40,9 @@ pub record Trace : Type 0 where
 
 abbrev pub attempt_in : Trace → ℕ → Attempt
 attempt_in s p = attempt_of s.world p
+
+abbrev pub is_flying : Trace → ℕ → Bool
+is_flying s p = is_in_flight (attempt_in s p)
 
 abbrev pub happens : Event → Trace → Trace
 happens event s = record s { world = happened s.world event }
@@ -85,29 +89,20 @@ requested p ask rest s = due_done p (happens (Moves p (Takes ask)) (with_progres
 abbrev pub returned : ℕ → Talk → Trace → Trace
 returned p rest s = due_done p (happens (Moves p EndsLate) (with_progress p (record (s.progress p) { rest = λ answer. rest }) s))
 
--- where there is an answer, this follows
-abbrev pub if_answered : Option ℕ → (ℕ → Trace) → Trace → Trace
-if_answered None next s = s
-if_answered (Some answer) next s = next answer
-
 -- A script goes on as far as it can without an access.
 abbrev pub speaks : ℕ → Talk → Trace → Trace
 speaks p (Over end) s = s
 speaks p (Says number rest) s = speaks p rest (with_progress p (said number (s.progress p)) s)
-speaks p (Asks ask rest) s = if_answered (answer_in (requested p ask rest s) p) (λ answer. speaks p (rest answer) (requested p ask rest s)) (requested p ask rest s)
-speaks p (Ends rest) s = if_answered (answer_in (returned p rest s) p) (λ answer. speaks p rest (returned p rest s)) (returned p rest s)
+speaks p (Asks ask rest) s = option_map_or (λ answer. speaks p (rest answer) (requested p ask rest s)) (answer_in (requested p ask rest s) p) (requested p ask rest s)
+speaks p (Ends rest) s = option_map_or (λ answer. speaks p rest (returned p rest s)) (answer_in (returned p rest s) p) (returned p rest s)
 
 -- A script goes on with the answer to its last request, where that has come.
 abbrev pub goes_on : ℕ → Trace → Trace
-goes_on p s = if_answered (answer_in s p) (λ answer. speaks p ((s.progress p).rest answer) s) s
+goes_on p s = option_map_or (λ answer. speaks p ((s.progress p).rest answer) s) (answer_in s p) s
 
 -- Who was refused something is rolled back.
-abbrev pub gives_up_at : Stage → ℕ → Trace → Trace
-gives_up_at (Stopped cause) p s = happens (Moves p (Takes (Abandon cause))) s
-gives_up_at stage p s = s
-
 abbrev pub gives_up : ℕ → Trace → Trace
-gives_up p s = gives_up_at (attempt_in s p).stage p s
+gives_up p s = option_map_or (λ cause. happens (Moves p (Takes (Abandon cause))) s) (cause_at (attempt_in s p).stage) s
 
 -- ---- how an attempt ends
 
@@ -151,12 +146,8 @@ ended_with (Some (Read prefix)) p s = with_row p prefix false Done (s.progress p
 ended_with (Some (RolledBack cause prefix)) p s = rolled_with cause p prefix s
 
 -- An attempt that has made its last access is over.
-abbrev pub ends_at : Stage → ℕ → Trace → Trace
-ends_at Ended p s = ended_with (attempt_in s p).ending p s
-ends_at stage p s = s
-
 abbrev pub ends : ℕ → Trace → Trace
-ends p s = ends_at (attempt_in s p).stage p s
+ends p s = if is_flying s p then s else ended_with (attempt_in s p).ending p s
 
 -- one access of the worker's attempt, and what follows it at once
 abbrev pub access : ℕ → Trace → Trace
@@ -175,9 +166,6 @@ retried_at ending clock = false
 -- the worker waits for a change
 abbrev pub is_parked : Trace → ℕ → Bool
 is_parked s p = retried_at (attempt_in s p).ending s.world.clock
-
-abbrev pub is_flying : Trace → ℕ → Bool
-is_flying s p = is_in_flight (attempt_in s p)
 
 -- The worker may make a next attempt: it has a script left, isn't parked, and has made fewer attempts than it may.
 abbrev pub may_begin : Job → Settings → Trace → ℕ → Bool
@@ -205,26 +193,14 @@ turns job settings (p ∷ ps) s = turns job settings ps (turn job settings p s)
 abbrev pub workers_of : Job → List ℕ
 workers_of job = range_with_len 1 (length job.workers)
 
-abbrev pub first_where : (ℕ → Bool) → List ℕ → Option ℕ
-first_where test [] = None
-first_where test (p ∷ ps) = if test p then Some p else first_where test ps
-
-abbrev pub or_first : Option ℕ → Option ℕ → Option ℕ
-or_first None other = other
-or_first (Some p) other = Some p
-
 -- Whose turn it is behind the written steps: that of the first worker with an attempt in flight, and where there is none, of the first that may begin one.
 abbrev pub whose : Job → Settings → Trace → Option ℕ
-whose job settings s = or_first (first_where (is_flying s) (workers_of job)) (first_where (may_begin job settings s) (workers_of job))
-
-abbrev pub turn_of : Job → Settings → Option ℕ → Trace → Trace
-turn_of job settings None s = s
-turn_of job settings (Some p) s = turn job settings p s
+whose job settings s = option_or (find (is_flying s) (workers_of job)) (find (may_begin job settings s) (workers_of job))
 
 -- so many turns behind the written steps
 unfoldable pub onward : Job → Settings → ℕ → Trace → Trace
 onward job settings zero s = s
-onward job settings (suc count) s = onward job settings count (turn_of job settings (whose job settings s) s)
+onward job settings (suc count) s = onward job settings count (option_map_or (λ p. turn job settings p s) (whose job settings s) s)
 
 abbrev pub terms_of_job : Job → Settings → Terms
 terms_of_job job settings = record { opening = (opening_contents job).refs; callers = settings.callers; limit = settings.clock }

@@ -33,7 +33,7 @@ use Rattle.ledger_model.specs.Replays.{NamesScript, scripts_of, settled_by}
 use Rattle.ledger_model.specs.Report.{has_text}
 use Rattle.ledger_model.specs.Run.{Kept, Failed, Retried, Outcome, statement_count}
 use Rattle.ledger_model.specs.Settle.{Commits, Fails, OnlyReads, Spends, settle}
-use Rattle.ledger_model.specs.Traced.{MayBeTraced, Trace, attempt_in, ended_with, ends, ends_at, is_flying, rolled_with, terms_of_job, with_rolled, with_row}
+use Rattle.ledger_model.specs.Traced.{MayBeTraced, Trace, attempt_in, ended_with, ends, is_flying, rolled_with, terms_of_job, with_rolled, with_row}
 use Rattle.ledger_model.proofs.Asked.{script_is_its_run}
 use Rattle.trace_laws.proofs.Ended.{TellsCommit, TellsFailure, TellsRead, TellsRetry, TellsRollback, TellsRun, TellsSpent}
 use Rattle.trace_laws.proofs.Told.{with_refs}
@@ -361,6 +361,6 @@ module _ {lawful : List ℕ → Type 0} {may : List ℕ → List ℕ → Type 0}
   unfolding flies_at
   ends_on = go t.stage refl
     where
-      go : (stage : Stage) → t.stage ≡ stage → Tracked lawful may job settings (ends_at stage p s)
+      go : (stage : Stage) → t.stage ≡ stage → Tracked lawful may job settings (if flies_at stage then s else ended_with t.ending p s)
       go Ended ended = by_ending ended t.ending refl
       go stage is = flying_tracked (ap flies_at is)

@@ -1,7 +1,8 @@
 -- What follows a worker's access up to the end of its attempt: what is due is done, and the script goes on as far as it can without an access. Here s is the trace and p the worker.
 use Rattle.std.proofs.Common.{◌≡◌, ℕ, suc, ◌≤◌, List, [], ◌∷◌, length, Option, Some, None, refl, sym, ap, ◌∙◌, subst, arith, inl, inr}
+use Rattle.std.specs.Option.{option_map_or}
 use Rattle.stm_model.specs.After.{roll_on}
-use Rattle.stm_model.specs.Attempt.{Attempt, Due, Ended, Ring, Run, Stage, Stopped, Write, stamp_of}
+use Rattle.stm_model.specs.Attempt.{Attempt, Due, Ended, Ring, Run, Stage, Stopped, Write, cause_at, stamp_of}
 use Rattle.stm_model.specs.Moves.{AwaitsAskAt, Does, EndsLate, May, Move, Takes, asked_at, asked_stopped, did_first, moved}
 use Rattle.stm_model.specs.Safe.{IsKept, Safe, Sound}
 use Rattle.stm_model.specs.World.{IsCaller, MayHappen, MeetsOwed, Moves, Steps, Terms, World, attempt_of, cells_in, happened}
@@ -19,7 +20,7 @@ use Rattle.ledger_model.specs.declared.script.Statement.{Statement}
 use Rattle.ledger_model.specs.Contents.{opening_contents}
 use Rattle.ledger_model.specs.Replays.{block_of, settled_by}
 use Rattle.ledger_model.specs.Talk.{Talk, Over, Says, Asks, Ends}
-use Rattle.ledger_model.specs.Traced.{Progress, Trace, all_done, answer_in, asked, attempt_in, due_done, gives_up, gives_up_at, goes_on, happens, if_answered, requested, returned, said, speaks, terms_of_job, with_progress}
+use Rattle.ledger_model.specs.Traced.{Progress, Trace, all_done, answer_in, asked, attempt_in, due_done, gives_up, goes_on, happens, requested, returned, said, speaks, terms_of_job, with_progress}
 use Rattle.trace_laws.proofs.Moves.{Listens}
 use Rattle.trace_laws.proofs.Told.{ClosesSo, GoesOnHere, IsTold, ToldAt, book_then}
 use Rattle.trace_laws.proofs.Accesses.{after_access}
@@ -265,7 +266,7 @@ module _ (lawful : List ℕ → Type 0) (may : List ℕ → List ℕ → Type 0)
 
   -- the script goes on with the answer, where there is one
   answers : (rest : ℕ → Talk) (s : Trace) → Paused s → (s.progress p).rest ≡ rest → ((answer : ℕ) → Speaking (rest answer) s → Paused (speaks p (rest answer) s))
-      → Paused (if_answered (answer_in s p) (λ answer. speaks p (rest answer) s) s)
+      → Paused (option_map_or (λ answer. speaks p (rest answer) s) (answer_in s p) s)
   answers rest s old same next = go (answer_in s p) refl
     where
       speaking : (answer : ℕ) → answer_in s p ≡ Some answer → Speaking (rest answer) s
@@ -276,7 +277,7 @@ module _ (lawful : List ℕ → Type 0) (may : List ℕ → List ℕ → Type 0)
             (answered base (script_in job p s) (attempt_in s p) (s.progress p) answer is old.told);
       }
 
-      go : (answer : Option ℕ) → answer_in s p ≡ answer → Paused (if_answered answer (λ answer. speaks p (rest answer) s) s)
+      go : (answer : Option ℕ) → answer_in s p ≡ answer → Paused (option_map_or (λ answer. speaks p (rest answer) s) answer s)
       go None none = old
       go (Some answer) is = next answer (speaking answer is)
 
@@ -300,9 +301,10 @@ module _ (lawful : List ℕ → Type 0) (may : List ℕ → List ℕ → Type 0)
   -- ---- who was refused something
 
   pub gives_up_on : (s : Trace) → Paused s → Paused (gives_up p s)
+  unfolding cause_at
   gives_up_on s old = go (attempt_in s p).stage refl
     where
-      go : (stage : Stage) → (attempt_in s p).stage ≡ stage → Paused (gives_up_at stage p s)
+      go : (stage : Stage) → (attempt_in s p).stage ≡ stage → Paused (option_map_or (λ cause. happens (Moves p (Takes (Abandon cause))) s) (cause_at stage) s)
       go (Stopped cause) is =
           let t = attempt_in s p in
           let next = moves_on (Takes (Abandon cause)) s old.midway (may_give_up (cells_in terms) terms.limit t cause is old.nothing_due) (took_is t (Abandon cause))

@@ -1,7 +1,8 @@
 -- Each turn keeps a trace tracked. Here s is the trace before and p the worker.
 use Rattle.std.proofs.Common.{◌≡◌, ◌≢◌, ℕ, zero, suc, ◌+◌, ◌-◌, ◌^◌, ◌<◌, ◌≤◌, Bool, true, false, not, ◌&&◌, IsTrue, MatchBool, nat_lt, if◌then◌else◌, max, IfSome, List, [], ◌∷◌, length, get_or, Option, Some, None, refl, sym, ap, ◌∙◌, subst, arith, inl, inr}
 use Rattle.std.proofs.lemmas.Bool.Decides.{nat_tests}
-use Rattle.std.specs.List.{AllByRecursion, range_with_len}
+use Rattle.std.specs.List.{AllByRecursion, find, range_with_len}
+use Rattle.std.specs.Option.{option_map_or, option_or}
 use Rattle.meta_word.specs.declared.status.TheConstants.{MAX_SERIAL}
 use Rattle.stm_model.specs.Attempt.{Attempt}
 use Rattle.stm_model.specs.Moves.{Begins, May, begun, moved}
@@ -23,7 +24,7 @@ use Rattle.ledger_model.specs.Fits.{ScriptFits, WorkerFits, places}
 use Rattle.ledger_model.specs.Replays.{rolled_of, rows_of, scripts_of, settled_by}
 use Rattle.ledger_model.specs.Run.{statement_count}
 use Rattle.ledger_model.specs.Talk.{talk}
-use Rattle.ledger_model.specs.Traced.{MayBeTraced, Progress, Trace, access, attempt_in, begins, first_where, fresh, has_left, is_flying, is_parked, may_begin, onward, or_first, terms_of_job, turn, turn_of, turns, whose, with_progress, workers_of}
+use Rattle.ledger_model.specs.Traced.{MayBeTraced, Progress, Trace, access, attempt_in, begins, fresh, has_left, is_flying, is_parked, may_begin, onward, terms_of_job, turn, turns, whose, with_progress, workers_of}
 use Rattle.ledger_model.proofs.Listed.{listed_sized}
 use Rattle.ledger_model.proofs.Turning.{script_may}
 use Rattle.trace_laws.proofs.Told.{IsTold}
@@ -248,26 +249,26 @@ module _ (lawful : List ℕ → Type 0) (may : List ℕ → List ℕ → Type 0)
       each_weaker (IsBetween 1 (length job.workers)) IsWorker (λ p within. (within.0, (let high : p < 1 + length job.workers = within.1 in omega (arith, high))))
       (range_with_len 1 (length job.workers)) (each_in_range 1 (length job.workers))
 
-  first_within : (test : ℕ → Bool) (ps : List ℕ) → AllByRecursion IsWorker ps → IfSome (first_where test ps) IsWorker
+  first_within : (test : ℕ → Bool) (ps : List ℕ) → AllByRecursion IsWorker ps → IfSome (find test ps) IsWorker
   first_within test [] named = tt
   first_within test (p ∷ ps) named = go (test p) (first_within test ps named.1)
     where
-      go : (b : Bool) → IfSome (first_where test ps) IsWorker → IfSome (if b then Some p else first_where test ps) IsWorker
+      go : (b : Bool) → IfSome (find test ps) IsWorker → IfSome (if b then Some p else find test ps) IsWorker
       go true rest = named.0
       go false rest = rest
 
-  or_within : (first second : Option ℕ) → IfSome first IsWorker → IfSome second IsWorker → IfSome (or_first first second) IsWorker
+  or_within : (first second : Option ℕ) → IfSome first IsWorker → IfSome second IsWorker → IfSome (option_or first second) IsWorker
   or_within None second one other = other
   or_within (Some p) second one other = one
 
-  turn_of_on : (found : Option ℕ) (s : Trace) → IfSome found IsWorker → IsTracked s → IsTracked (turn_of job settings found s)
-  turn_of_on None s is old = old
-  turn_of_on (Some p) s is old = turn_on p is.0 is.1 s old
+  found_on : (found : Option ℕ) (s : Trace) → IfSome found IsWorker → IsTracked s → IsTracked (option_map_or (λ p. turn job settings p s) found s)
+  found_on None s is old = old
+  found_on (Some p) s is old = turn_on p is.0 is.1 s old
 
   pub onward_on : (count : ℕ) (s : Trace) → IsTracked s → IsTracked (onward job settings count s)
   unfolding onward
   onward_on zero s old = old
   onward_on (suc count) s old =
-      onward_on count (turn_of job settings (whose job settings s) s)
-      (turn_of_on (whose job settings s) s
-      (or_within (first_where (is_flying s) (workers_of job)) (first_where (may_begin job settings s) (workers_of job)) (first_within (is_flying s) (workers_of job) all_workers) (first_within (may_begin job settings s) (workers_of job) all_workers)) old)
+      onward_on count (option_map_or (λ p. turn job settings p s) (whose job settings s) s)
+      (found_on (whose job settings s) s
+      (or_within (find (is_flying s) (workers_of job)) (find (may_begin job settings s) (workers_of job)) (first_within (is_flying s) (workers_of job) all_workers) (first_within (may_begin job settings s) (workers_of job) all_workers)) old)

@@ -1,5 +1,6 @@
 use Rattle.std.proofs.Common.{◌≡◌, ◌≤◌, length}
-use Rattle.ledger_model.specs.Traced.{Trace, first_where, may_begin, workers_of}
+use Rattle.std.specs.List.{find}
+use Rattle.ledger_model.specs.Traced.{Trace, may_begin, workers_of}
 use Rattle.host_trace.specs.Tracings.{Traces}
 use Rattle.host_trace.proofs.Firsts.{from_on}
 use Rattle.host_trace.proofs.trace.Tracing.first_to_begin.Given as goal
@@ -7,4 +8,4 @@ use Rattle.host_trace.proofs.trace.Tracing.first_to_begin.Given as goal
 abbrev pub invariant-loop-worker : goal.invariant-loop-worker
 invariant-loop-worker l =
     (s : Trace) → Traces l.self s
-    → first_where (may_begin l.self.job.now l.self.settings s) (from_on l.worker (length l.self.job.now.workers)) ≡ first_where (may_begin l.self.job.now l.self.settings s) (workers_of l.self.job.now)
+    → find (may_begin l.self.job.now l.self.settings s) (from_on l.worker (length l.self.job.now.workers)) ≡ find (may_begin l.self.job.now l.self.settings s) (workers_of l.self.job.now)
