@@ -4,6 +4,8 @@ use Rattle.std.specs.List.{AllByRecursion, filter, range_with_len}
 use Rattle.std.specs.List.Sorted.{IsPermutation, IsSortedBy}
 use Rattle.std.proofs.lemmas.Bool.{cases_eq}
 use Rattle.std.proofs.lemmas.Bool.Decides.{nat_tests}
+use Rattle.std.proofs.lemmas.List.Elements.{All-from_recursion}
+use Rattle.std.proofs.lemmas.List.Kept.{AllPairs-cons}
 use Rattle.std.proofs.lemmas.List.Recursion.{is_sum_by}
 use Rattle.std.proofs.lemmas.List.Sorted.{sum_by-IsPermutation}
 use Rattle.ledger_model.specs.declared.listing.Row.{Row}
@@ -166,6 +168,6 @@ first_of_all a (b ∷ rows) sorted apart =
     (before, all_weaker (Before b) (Before a) (λ row behind. before_along a b row before behind) rows (first_of_all b rows (sorted_rest a (b ∷ rows) sorted) (apart_rest a (b ∷ rows) apart)))
 
 pub sorted_in_order : (rows : List Row) → IsSortedBy stands_before rows → AreApart rows → InOrder rows
-sorted_in_order [] sorted apart = tt
+sorted_in_order [] sorted apart = λ i j d less within. absurd (omega (arith, within))
 sorted_in_order (row ∷ rows) sorted apart =
-    (first_of_all row rows sorted apart, sorted_in_order rows (sorted_rest row rows sorted) (apart_rest row rows apart))
+    AllPairs-cons Before row rows (All-from_recursion (Before row) rows (first_of_all row rows sorted apart)) (sorted_in_order rows (sorted_rest row rows sorted) (apart_rest row rows apart))

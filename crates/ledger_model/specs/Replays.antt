@@ -1,5 +1,5 @@
 -- A listing tells what running a job's scripts alone gives, one after another in the listing's order.
-use Rattle.std.specs.Prelude.{◌≡◌, ℕ, suc, ◌+◌, ◌-◌, ◌<◌, ◌≤◌, nat_eq, if◌then◌else◌, not, IsTrue, MatchBool, List, [], ◌∷◌, ◌++◌, length, map, filter, take, slice_index_or}
+use Rattle.std.specs.Prelude.{◌≡◌, ℕ, suc, ◌+◌, ◌-◌, ◌<◌, ◌≤◌, nat_eq, if◌then◌else◌, not, IsTrue, MatchBool, List, [], ◌∷◌, ◌++◌, length, map, filter, take, slice_index_or, AllPairs}
 use Rattle.std.specs.List.{AllByRecursion, range_with_len}
 use Rattle.stm_model.specs.Evidence.{Evidence}
 use Rattle.stm_model.specs.Pairs.{KeysAscend}
@@ -96,8 +96,7 @@ pub record TellsReader (job : Job) (settings : Settings) (rows : List Row) (row 
 
 -- each row stands before those behind it
 abbrev pub InOrder : List Row → Type 0
-InOrder [] = Unit {0}
-InOrder (row ∷ rows) = AllByRecursion (λ later. IsTrue (stands_before row later)) rows × InOrder rows
+InOrder rows = AllPairs (λ row later. IsTrue (stands_before row later)) rows
 
 -- The writers' positions count up from 1, and no other position is past the last writer's.
 pub record AreStamped (rows : List Row) : Type 0 where
@@ -158,14 +157,9 @@ pub record IsPlaced (rows : List Row) (rolled : Rolled) : Type 0 where
   pub behind : AllByRecursion (λ row. suc row.number ≡ rolled.number → row.position ≤ rolled.prefix) (rows_of rolled.worker rows)
   pub before : AllByRecursion (λ row. row.number ≡ rolled.number → ComesBefore rolled.prefix row) (rows_of rolled.worker rows)
 
--- each attempt may stand before those behind it
-abbrev pub PrecedeEach : List Rolled → Type 0
-PrecedeEach [] = Unit {0}
-PrecedeEach (rolled ∷ lines) = AllByRecursion (MayPrecede rolled) lines × PrecedeEach lines
-
 -- The attempts stand by worker, each one's in order, and each at its place.
 pub record ArePlaced (listing : Listing) : Type 0 where
-  pub in_order : PrecedeEach listing.rolled
+  pub in_order : AllPairs MayPrecede listing.rolled
   pub placed : AllByRecursion (IsPlaced listing.rows) listing.rolled
 
 -- Who asked for a retry ran up to its end, and retries there.

@@ -1,9 +1,10 @@
 -- Elements of lists, and lists in which each element stands in one relation to all behind it.
-use Rattle.std.proofs.Common.{◌≡◌, ◌⊎◌, inl, inr, Bool, true, false, cond, List, [], ◌∷◌, ◌++◌, map, refl, sym, ap, subst, ◌∙◌}
-use Rattle.std.specs.List.{AllByRecursion, filter, flat_map}
+use Rattle.std.proofs.Common.{◌≡◌, ◌⊎◌, inl, inr, ℕ, suc, Bool, true, false, cond, List, [], ◌∷◌, ◌++◌, map, refl, sym, ap, subst, ◌∙◌, arith}
+use Rattle.std.specs.List.{AllByRecursion, AllPairs, filter, flat_map}
 use Rattle.std.specs.List.Sorted.{IsPermutation}
 use Rattle.std.proofs.lemmas.Bool.{both_ways}
 use Rattle.std.proofs.lemmas.List.Elements.{All-from_recursion, recursion_from_All}
+use Rattle.std.proofs.lemmas.List.Kept.{AllPairs-cons}
 use Rattle.std.proofs.lemmas.List.Sorted.{All-permutation, IsPermutation-sym}
 
 -- ---- elements
@@ -114,6 +115,18 @@ module _ {X : Type 0} (test : X → Bool) where
 abbrev pub Ordered : {X : Type 0} → (X → X → Type 0) → List X → Type 0
 Ordered R [] = Unit {0}
 Ordered R (x ∷ xs) = AllByRecursion (R x) xs × Ordered R xs
+
+-- as std says it, and back
+pub from_pairs : {X : Type 0} (R : X → X → Type 0) (xs : List X) → AllPairs R xs → Ordered R xs
+from_pairs R [] pairs = tt
+from_pairs R (x ∷ xs) pairs = (
+  recursion_from_All (R x) xs (λ k d within. pairs 0 (suc k) d (omega arith) (omega (arith, within))),
+  from_pairs R xs (λ i j d less within. pairs (suc i) (suc j) d (omega (arith, less)) (omega (arith, within))),
+)
+
+pub all_pairs : {X : Type 0} (R : X → X → Type 0) (xs : List X) → Ordered R xs → AllPairs R xs
+all_pairs R [] order = λ i j d less within. absurd (omega (arith, within))
+all_pairs R (x ∷ xs) order = AllPairs-cons R x xs (All-from_recursion (R x) xs order.0) (all_pairs R xs order.1)
 
 pub Ordered-weaker : {X : Type 0} (R S : X → X → Type 0) (P : X → Type 0) → ((x y : X) → P x → P y → R x y → S x y) → (xs : List X) → AllByRecursion P xs → Ordered R xs → Ordered S xs
 Ordered-weaker R S P f [] each order = tt

@@ -17,13 +17,13 @@ use Rattle.opacity.proofs.Steps.{event_safe}
 use Rattle.ledger_model.specs.declared.job.Job.{Job}
 use Rattle.ledger_model.specs.declared.listing.Rolled.{Rolled}
 use Rattle.ledger_model.specs.declared.listing.Row.{Row}
-use Rattle.ledger_model.specs.Replays.{rolled_of, rows_of, scripts_of}
+use Rattle.ledger_model.specs.Replays.{MayPrecede, rolled_of, rows_of, scripts_of}
 use Rattle.ledger_model.specs.Traced.{Progress, Trace, attempt_in, happens, is_flying, terms_of_job, with_progress}
-use Rattle.trace_laws.proofs.Tracked.{EarlierEach, HasWriter, PrecedeAll, ShowsRolled, ShowsRow, StandsBetween, TracksWorker}
+use Rattle.trace_laws.proofs.Tracked.{ComesEarlier, HasWriter, ShowsRolled, ShowsRow, StandsBetween, TracksWorker}
 use Rattle.trace_laws.proofs.Happening.{Affects, SinceStays}
 use Rattle.trace_laws.proofs.Keeping.{IsNumbered}
 use Rattle.trace_laws.proofs.Lasting.{lines_last, rows_last, worker_lasts}
-use Rattle.trace_laws.proofs.Lists.{each_weaker}
+use Rattle.trace_laws.proofs.Lists.{Ordered, each_weaker}
 use Rattle.trace_laws.proofs.Stamping.{own_entry, own_stamp}
 
 -- ---- its own listing
@@ -31,8 +31,8 @@ use Rattle.trace_laws.proofs.Stamping.{own_entry, own_stamp}
 -- The worker's rows and rolled lines are numbered and stand in the order in which they came.
 pub record AreOrdered (rows : List Row) (lines : List Rolled) : Type 0 where
   pub numbered : map (λ row. row.number) rows ≡ range_with_len 1 (length rows)
-  pub rows_rise : EarlierEach rows
-  pub lines_rise : PrecedeAll lines
+  pub rows_rise : Ordered ComesEarlier rows
+  pub lines_rise : Ordered MayPrecede lines
   pub between : AllByRecursion (StandsBetween rows) lines
 
 -- None of them is from later than the first n entries.

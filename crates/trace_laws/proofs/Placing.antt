@@ -5,19 +5,11 @@ use Rattle.std.specs.List.{AllByRecursion, range_with_len}
 use Rattle.ledger_model.specs.declared.listing.Rolled.{Rolled}
 use Rattle.ledger_model.specs.declared.listing.Row.{Row}
 use Rattle.ledger_model.specs.Replays.{MayPrecede}
-use Rattle.trace_laws.proofs.Tracked.{ComesEarlier, EarlierEach, PrecedeAll, StandsBetween}
+use Rattle.trace_laws.proofs.Tracked.{ComesEarlier, StandsBetween}
 use Rattle.trace_laws.proofs.Lists.{each_both, each_weaker}
 use Rattle.trace_laws.proofs.Midway.{AreFrom, AreOrdered}
 use Rattle.trace_laws.proofs.Numbers.{IsBetween, each_in_range}
-use Rattle.trace_laws.proofs.Pushes.{each_mapped, each_push, range_push}
-
-earlier_push : (rows : List Row) (row : Row) → EarlierEach rows → AllByRecursion (λ earlier. ComesEarlier earlier row) rows → EarlierEach (rows ++ row ∷ [])
-earlier_push [] row each all = (tt, tt)
-earlier_push (first ∷ rows) row each all = (each_push (ComesEarlier first) rows row each.0 all.0, earlier_push rows row each.1 all.1)
-
-precede_push : (lines : List Rolled) (line : Rolled) → PrecedeAll lines → AllByRecursion (λ earlier. MayPrecede earlier line) lines → PrecedeAll (lines ++ line ∷ [])
-precede_push [] line each all = (tt, tt)
-precede_push (first ∷ lines) line each all = (each_push (MayPrecede first) lines line each.0 all.0, precede_push lines line each.1 all.1)
+use Rattle.trace_laws.proofs.Pushes.{Ordered-push, each_mapped, each_push, range_push}
 
 -- a place behind n, and behind it for a writer
 abbrev pub IsBehind : ℕ → Bool → ℕ → Type 0
@@ -56,7 +48,7 @@ module _ (rows : List Row) (lines : List Rolled) (old : AreOrdered rows lines) (
         record {
           numbered = map_push (λ (each : Row). each.number) rows row ∙ ap (λ (numbers : List ℕ). numbers ++ row.number ∷ []) old.numbered ∙ ap (λ (k : ℕ). range_with_len 1 (length rows) ++ k ∷ []) next
               ∙ range_push 1 (length rows) ∙ ap (range_with_len 1) (sym long);
-          rows_rise = earlier_push rows row old.rows_rise comes_later;
+          rows_rise = Ordered-push ComesEarlier rows row old.rows_rise comes_later;
           lines_rise = old.lines_rise;
           between = each_both (StandsBetween rows) (λ line. line.prefix ≤ n) (StandsBetween (rows ++ row ∷ [])) between_more lines old.between from.1;
         }
@@ -85,7 +77,7 @@ module _ (rows : List Row) (lines : List Rolled) (old : AreOrdered rows lines) (
         record {
           numbered = old.numbered;
           rows_rise = old.rows_rise;
-          lines_rise = precede_push lines line old.lines_rise
+          lines_rise = Ordered-push MayPrecede lines line old.lines_rise
               (each_both (λ (earlier : Rolled). (earlier.prefix ≤ n) × StandsBetween rows earlier) (λ (earlier : Rolled). earlier.worker ≡ line.worker) (λ (earlier : Rolled). MayPrecede earlier line) may_precede lines places workers);
           between = each_push (StandsBetween rows) lines line old.between stands;
         }

@@ -2,10 +2,14 @@
 use Rattle.std.proofs.Common.{◌≡◌, ◌+◌, ◌∙◌, ℕ, zero, suc, Bool, true, false, cond, List, [], ◌∷◌, ◌++◌, map, ap, arith, add-zero, append-nil}
 use Rattle.std.specs.List.{AllByRecursion, filter, range_with_len}
 use Rattle.std.proofs.lemmas.List.Elements.{filter-append}
-use Rattle.trace_laws.proofs.Lists.{each_append}
+use Rattle.trace_laws.proofs.Lists.{Ordered, each_append}
 
 pub each_push : {X : Type 0} (P : X → Type 0) (xs : List X) (x : X) → AllByRecursion P xs → P x → AllByRecursion P (xs ++ x ∷ [])
 each_push P xs x each last = each_append P xs (x ∷ []) each (last, tt)
+
+pub Ordered-push : {X : Type 0} (R : X → X → Type 0) (xs : List X) (x : X) → Ordered R xs → AllByRecursion (λ earlier. R earlier x) xs → Ordered R (xs ++ x ∷ [])
+Ordered-push R [] x order each = (tt, tt)
+Ordered-push R (first ∷ xs) x order each = (each_push (R first) xs x order.0 each.0, Ordered-push R xs x order.1 each.1)
 
 pub filter_keeps : {X : Type 0} (test : X → Bool) (xs : List X) (x : X) → test x ≡ true → filter test (xs ++ x ∷ []) ≡ filter test xs ++ x ∷ []
 filter_keeps test xs x passes = filter-append test xs (x ∷ []) ∙ ap (λ (b : Bool). filter test xs ++ cond b (x ∷ []) []) passes

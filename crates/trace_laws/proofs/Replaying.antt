@@ -1,6 +1,6 @@
 -- The listing of a tracked trace in which it is nobody's turn replays the job.
 use Rattle.std.proofs.Common.{◌≡◌, ◌≢◌, inl, inr, ℕ, suc, ◌+◌, ◌<◌, ◌≤◌, Bool, true, false, not, ◌&&◌, cond, if◌then◌else◌, nat_eq, nat_lt, List, [], ◌∷◌, ◌++◌, length, map, Option, Some, refl, sym, ap, subst, ◌∙◌, arith}
-use Rattle.std.specs.List.{AllByRecursion, range_with_len}
+use Rattle.std.specs.List.{AllByRecursion, AllPairs, range_with_len}
 use Rattle.std.proofs.lemmas.Bool.{both_ways, cases_lt, eqb-true, ltb-true, ltb-false, ne_eqb, not-true}
 use Rattle.std.proofs.lemmas.Bool.Decides.{nat_tests}
 use Rattle.std.proofs.lemmas.List.Elements.{filter-append}
@@ -16,11 +16,11 @@ use Rattle.ledger_model.specs.declared.listing.Listing.{Listing}
 use Rattle.ledger_model.specs.declared.listing.Rolled.{Rolled}
 use Rattle.ledger_model.specs.declared.listing.Row.{Row}
 use Rattle.ledger_model.specs.Run.{Retried}
-use Rattle.ledger_model.specs.Replays.{AreStamped, ArePlaced, ComesBefore, CountsAttempts, IsBlocked, IsLast, IsPlaced, ListsJob, ListsScripts, NamesScript, PrecedeEach, Replays, TellsReader, TellsRolled, TellsWriter, attempts_of, contents_after, names_of, others_of, rolled_of, rows_of, run_of, scripts_of, settled_by, writer_count, writers_of}
+use Rattle.ledger_model.specs.Replays.{AreStamped, ArePlaced, ComesBefore, CountsAttempts, IsBlocked, IsLast, IsPlaced, ListsJob, ListsScripts, MayPrecede, NamesScript, Replays, TellsReader, TellsRolled, TellsWriter, attempts_of, contents_after, names_of, others_of, rolled_of, rows_of, run_of, scripts_of, settled_by, writer_count, writers_of}
 use Rattle.ledger_model.specs.Traced.{IsListed, Trace, attempt_in, has_left, is_parked, left_where, retried_at, workers_of}
-use Rattle.trace_laws.proofs.Tracked.{EarlierEach, ShowsRolled, ShowsRow, StandsBetween, contents_at, run_at}
+use Rattle.trace_laws.proofs.Tracked.{ComesEarlier, ShowsRolled, ShowsRow, StandsBetween, contents_at, run_at}
 use Rattle.trace_laws.proofs.Left.{each_left, left_ascends, worker_left}
-use Rattle.trace_laws.proofs.Lists.{Has, Has-middle, each_both, each_filter, each_flat_map, each_has, each_passing, each_permutation, each_weaker, filter_none}
+use Rattle.trace_laws.proofs.Lists.{Has, Has-middle, Ordered, each_both, each_filter, each_flat_map, each_has, each_passing, each_permutation, each_weaker, filter_none}
 use Rattle.trace_laws.proofs.Numbers.{IsBetween, each_in_range}
 use Rattle.trace_laws.proofs.Resting.{Rested, contents_last, may_not_begin, rests, tracks, written}
 use Rattle.trace_laws.proofs.Stamps.{are_stamped, as_many, left_alike}
@@ -65,7 +65,7 @@ module _ {lawful : List ℕ → Type 0} {may : List ℕ → List ℕ → Type 0}
   shown_row : (row : Row) → Has row s.rows → ShowsRow job settings h row
   shown_row row has = each_has (ShowsRow job settings h) s.rows row r.tracked.rows has
 
-  earlier : (row : Row) → Has row s.rows → EarlierEach (rows_of row.worker s.rows)
+  earlier : (row : Row) → Has row s.rows → Ordered ComesEarlier (rows_of row.worker s.rows)
   earlier row has =
       let named = (shown_row row has).named in
       let to = named.worker_to in
@@ -137,7 +137,7 @@ module _ {lawful : List ℕ → Type 0} {may : List ℕ → List ℕ → Type 0}
 
   placed : ArePlaced listing
   placed = record {
-    in_order = subst PrecedeEach (sym is.rolled) (lines_in_order s.rolled n (λ p within. (tracks r p within).lists.rolled));
+    in_order = subst (AllPairs MayPrecede) (sym is.rolled) (lines_in_order s.rolled n (λ p within. (tracks r p within).lists.rolled));
     placed = each_line (IsPlaced listing.rows) (λ p within.
         each_both (λ line. line.worker ≡ p) (λ line. ShowsRolled job settings h line × StandsBetween (rows_of p s.rows) line) (IsPlaced listing.rows)
         (λ line own both. is_placed p within line own both.0 both.1) (rolled_of p s.rolled) (owned s.rolled p)

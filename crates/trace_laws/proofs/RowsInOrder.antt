@@ -6,7 +6,7 @@ use Rattle.std.proofs.lemmas.List.Sorted.{IsPermutation-sym, IsPermutation-trans
 use Rattle.ledger_model.specs.declared.listing.Row.{Row}
 use Rattle.ledger_model.specs.Order.{kind_rank, less_or_tied, stands_before}
 use Rattle.ledger_model.specs.Replays.{InOrder}
-use Rattle.trace_laws.proofs.Lists.{Has-permutation, Ordered, ordered_same}
+use Rattle.trace_laws.proofs.Lists.{Has-permutation, from_pairs, ordered_same}
 
 -- the first row stands before the second
 abbrev pub Before : Row → Row → Type 0
@@ -23,12 +23,8 @@ rows_apart a b =
     (tied_apart (kind_rank a.writer) (kind_rank b.writer) _ _
     (tied_apart a.worker b.worker _ _ (λ here there. grind (arith, nat_tests))))
 
-pub rows_ordered : (rows : List Row) → InOrder rows → Ordered Before rows
-rows_ordered [] order = tt
-rows_ordered (row ∷ rows) order = (order.0, rows_ordered rows order.1)
-
 -- One list of rows has one order.
 pub one_order : (rows a b : List Row) → IsPermutation rows a → IsPermutation rows b → InOrder a → InOrder b → a ≡ b
 one_order rows a b first second here there =
     let moved = IsPermutation-trans a rows b (IsPermutation-sym rows a first) second in
-    ordered_same Before rows_apart a b (rows_ordered a here) (rows_ordered b there) (Has-permutation a b moved) (Has-permutation b a (IsPermutation-sym a b moved))
+    ordered_same Before rows_apart a b (from_pairs Before a here) (from_pairs Before b there) (Has-permutation a b moved) (Has-permutation b a (IsPermutation-sym a b moved))

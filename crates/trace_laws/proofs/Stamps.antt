@@ -17,10 +17,10 @@ use Rattle.ledger_model.specs.Contents.{opening_contents}
 use Rattle.ledger_model.specs.Order.{kind_rank, less_or_tied}
 use Rattle.ledger_model.specs.Replays.{AreStamped, InOrder, after_writers, contents_after, left_by, rows_of, writer_count, writers_of}
 use Rattle.trace_laws.proofs.Told.{with_refs}
-use Rattle.trace_laws.proofs.Tracked.{ComesEarlier, EarlierEach, HasWriter, ShowsRow, ShowsWriter, contents_at, run_at}
-use Rattle.trace_laws.proofs.Lists.{Has, Has-filter, Has-from_filter, Has-permutation, Ordered, Ordered-filter, Ordered-map, Ordered-weaker, each_filter, each_from, each_has, each_map, each_permutation, each_weaker, ordered_either, Has-map, Has-middle}
+use Rattle.trace_laws.proofs.Tracked.{ComesEarlier, HasWriter, ShowsRow, ShowsWriter, contents_at, run_at}
+use Rattle.trace_laws.proofs.Lists.{Has, Has-filter, Has-from_filter, Has-permutation, Ordered, Ordered-filter, Ordered-map, Ordered-weaker, each_filter, each_from, each_has, each_map, each_permutation, each_weaker, from_pairs, ordered_either, Has-map, Has-middle}
 use Rattle.trace_laws.proofs.Numbers.{IsBetween, counts_up}
-use Rattle.trace_laws.proofs.RowsInOrder.{Before, rows_ordered}
+use Rattle.trace_laws.proofs.RowsInOrder.{Before}
 
 -- ---- two rows in order
 
@@ -38,15 +38,11 @@ numbers_ascend p q w v m n first second h is too same own =
       go : IsTrue (less_or_tied p q (less_or_tied 0 0 (less_or_tied w v (nat_lt m n)))) → m < n
       go h = grind (arith, nat_tests)
 
-pub earlier_ordered : (rows : List Row) → EarlierEach rows → Ordered ComesEarlier rows
-earlier_ordered [] earlier = tt
-earlier_ordered (row ∷ rows) earlier = (earlier.0, earlier_ordered rows earlier.1)
-
 -- ---- the writers
 
 module _ (job : Job) (settings : Settings) (h : List Entry) (rows listed : List Row) (moved : IsPermutation rows listed) (order : InOrder listed)
     (shown : AllByRecursion (ShowsRow job settings h) rows)
-    (earlier : (row : Row) → Has row rows → EarlierEach (rows_of row.worker rows))
+    (earlier : (row : Row) → Has row rows → Ordered ComesEarlier (rows_of row.worker rows))
     (accounted : (n : ℕ) → n < length h → HasWriter rows (suc n)) where
   abbrev writers : List Row
   writers = writers_of listed
@@ -73,7 +69,7 @@ module _ (job : Job) (settings : Settings) (h : List Entry) (rows listed : List 
       let numbers : a.number < b.number = numbers_ascend a.position b.position a.worker b.worker a.number b.number a.writer b.writer before first.1 second.1 same own in
       let here : Has a (rows_of a.worker rows) = Has-filter (λ row. nat_eq row.worker a.worker) rows a (eq-eqb a.worker a.worker refl) first.0 in
       let there : Has b (rows_of a.worker rows) = Has-filter (λ row. nat_eq row.worker a.worker) rows b (eq-eqb b.worker a.worker (sym own)) second.0 in
-      elim (ordered_either ComesEarlier (rows_of a.worker rows) a b (earlier_ordered (rows_of a.worker rows) (earlier a first.0)) here there) [
+      elim (ordered_either ComesEarlier (rows_of a.worker rows) a b (earlier a first.0) here there) [
         | inl comes ↦ let less : a.position < b.position = MatchBool-at_true _ _ second.1 comes.position in omega arith
         | inr rest ↦ elim rest [
           | inl comes ↦ let less = comes.number in omega arith
@@ -99,7 +95,7 @@ module _ (job : Job) (settings : Settings) (h : List Entry) (rows listed : List 
   pub stamps : map (λ row. row.position) writers ≡ range_with_len 1 (length h)
   stamps = counts_up 1 (length h) (map (λ row. row.position) writers)
       (Ordered-map (λ i j. i < j) (λ row. row.position) writers
-      (Ordered-weaker Before (λ a b. a.position < b.position) IsWriter positions_ascend writers each_writer (Ordered-filter Before (λ row. row.writer) listed (rows_ordered listed order))))
+      (Ordered-weaker Before (λ a b. a.position < b.position) IsWriter positions_ascend writers each_writer (Ordered-filter Before (λ row. row.writer) listed (from_pairs Before listed order))))
       (each_map (IsBetween 1 (length h)) (λ row. row.position) writers
       (each_weaker IsWriter (λ row. IsBetween 1 (length h) row.position) (λ row writes. let to = (shows_row row writes.0).to in ((shows_writer row writes).from, omega arith)) writers each_writer))
       stands_at

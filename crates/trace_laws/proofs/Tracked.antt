@@ -23,6 +23,7 @@ use Rattle.ledger_model.specs.Report.{has_text}
 use Rattle.ledger_model.specs.Run.{Outcome, Retried}
 use Rattle.ledger_model.specs.Settle.{Settled, Commits, Fails, OnlyReads, Spends, handler_runs, settle}
 use Rattle.ledger_model.specs.Traced.{Trace, attempt_in, is_flying, terms_of_job}
+use Rattle.trace_laws.proofs.Lists.{Ordered}
 use Rattle.trace_laws.proofs.Told.{IsTold, with_refs}
 
 -- ---- what the history leaves
@@ -78,21 +79,12 @@ pub record ShowsRolled (job : Job) (settings : Settings) (h : List Entry) (rolle
       × (rolled.trail ≡ (run_at job h rolled.worker rolled.number rolled.prefix).after.trail)
   pub alone : settings.callers ≡ 1 → rolled.cause ≡ Retry
 
--- each may stand before those behind it
-abbrev pub PrecedeAll : List Rolled → Type 0
-PrecedeAll [] = Unit {0}
-PrecedeAll (rolled ∷ lines) = AllByRecursion (MayPrecede rolled) lines × PrecedeAll lines
-
 -- ---- workers
 
 -- A row of a worker comes before another of its own: it is listed earlier, and no position is past the other's; a writer's is greater than all before it.
 pub record ComesEarlier (first second : Row) : Type 0 where
   pub number : first.number < second.number
   pub position : MatchBool second.writer (first.position < second.position) (first.position ≤ second.position)
-
-abbrev pub EarlierEach : List Row → Type 0
-EarlierEach [] = Unit {0}
-EarlierEach (row ∷ rows) = AllByRecursion (ComesEarlier row) rows × EarlierEach rows
 
 -- A rolled line comes between the row of the script before and that of its own.
 pub record StandsBetween (rows : List Row) (rolled : Rolled) : Type 0 where
@@ -108,8 +100,8 @@ over_of s p = settled_by s.rows p + length (rolled_of p s.rolled)
 pub record ListsWorker (job : Job) (s : Trace) (p : ℕ) : Type 0 where
   pub numbered : map (λ row. row.number) (rows_of p s.rows) ≡ range_with_len 1 (settled_by s.rows p)
   pub most : settled_by s.rows p ≤ length (scripts_of job p)
-  pub rows : EarlierEach (rows_of p s.rows)
-  pub rolled : PrecedeAll (rolled_of p s.rolled)
+  pub rows : Ordered ComesEarlier (rows_of p s.rows)
+  pub rolled : Ordered MayPrecede (rolled_of p s.rolled)
   pub between : AllByRecursion (StandsBetween (rows_of p s.rows)) (rolled_of p s.rolled)
   -- all of them are from what it had seen by the first access of its attempt in flight
   pub seen : AllByRecursion (λ row. row.position ≤ (s.world.view p).seen) (rows_of p s.rows)

@@ -1,7 +1,7 @@
 -- The rows and the rolled lines of each worker stand in the listing as they came.
 use Rattle.std.proofs.Common.{◌≡◌, ℕ, ◌<◌, ◌≤◌, Bool, true, false, nat_eq, nat_lt, IsTrue, List, [], ◌∷◌, sym, subst, ◌∙◌, arith}
 use Rattle.std.specs.Bool.{MatchBool}
-use Rattle.std.specs.List.{AllByRecursion, flat_map, range_with_len}
+use Rattle.std.specs.List.{AllByRecursion, AllPairs, flat_map, range_with_len}
 use Rattle.std.specs.List.Sorted.{IsPermutation}
 use Rattle.std.proofs.lemmas.Bool.{eqb-true}
 use Rattle.std.proofs.lemmas.Bool.Decides.{nat_tests}
@@ -9,12 +9,11 @@ use Rattle.std.proofs.lemmas.List.Sorted.{IsPermutation-sym}
 use Rattle.ledger_model.specs.declared.listing.Rolled.{Rolled}
 use Rattle.ledger_model.specs.declared.listing.Row.{Row}
 use Rattle.ledger_model.specs.Order.{kind_rank, less_or_tied}
-use Rattle.ledger_model.specs.Replays.{InOrder, MayPrecede, PrecedeEach, rolled_of, rows_of}
-use Rattle.trace_laws.proofs.Tracked.{ComesEarlier, EarlierEach, PrecedeAll}
-use Rattle.trace_laws.proofs.Lists.{Has, Has-filter, Has-from_filter, Has-permutation, Ordered, Ordered-filter, Ordered-flat_map, Ordered-weaker, each_from, each_weaker, filter_all, filter_none, ordered_same}
+use Rattle.ledger_model.specs.Replays.{InOrder, MayPrecede, rolled_of, rows_of}
+use Rattle.trace_laws.proofs.Tracked.{ComesEarlier}
+use Rattle.trace_laws.proofs.Lists.{Has, Has-filter, Has-from_filter, Has-permutation, Ordered, Ordered-filter, Ordered-flat_map, Ordered-weaker, all_pairs, each_from, each_weaker, filter_all, filter_none, from_pairs, ordered_same}
 use Rattle.trace_laws.proofs.Numbers.{IsBetween, Has-range, each_in_range, one_part, range_ascends}
-use Rattle.trace_laws.proofs.RowsInOrder.{Before, rows_apart, rows_ordered}
-use Rattle.trace_laws.proofs.Stamps.{earlier_ordered}
+use Rattle.trace_laws.proofs.RowsInOrder.{Before, rows_apart}
 
 -- ---- rows
 
@@ -31,7 +30,7 @@ comes_before p a b first second comes =
     (stands a.position b.position a.worker a.number b.number a.writer b.writer comes.position comes.number)
 
 -- Sorting leaves the rows of a worker as they came.
-pub worker_rows : (p : ℕ) (rows listed : List Row) → IsPermutation rows listed → InOrder listed → EarlierEach (rows_of p rows) → rows_of p listed ≡ rows_of p rows
+pub worker_rows : (p : ℕ) (rows listed : List Row) → IsPermutation rows listed → InOrder listed → Ordered ComesEarlier (rows_of p rows) → rows_of p listed ≡ rows_of p rows
 worker_rows p rows listed moved order earlier =
     let test : Row → Bool = λ row. nat_eq row.worker p in
     let owns : AllByRecursion (λ row. row.worker ≡ p) (rows_of p rows) =
@@ -39,19 +38,11 @@ worker_rows p rows listed moved order earlier =
     let along : (xs ys : List Row) → IsPermutation xs ys → (row : Row) → Has row (rows_of p xs) → Has row (rows_of p ys) =
     λ xs ys moved row has. let both = Has-from_filter test xs row has in Has-filter test ys row both.1 (Has-permutation xs ys moved row both.0) in
     ordered_same Before rows_apart (rows_of p listed) (rows_of p rows)
-    (Ordered-filter Before test listed (rows_ordered listed order))
-    (Ordered-weaker ComesEarlier Before (λ row. row.worker ≡ p) (comes_before p) (rows_of p rows) owns (earlier_ordered (rows_of p rows) earlier))
+    (Ordered-filter Before test listed (from_pairs Before listed order))
+    (Ordered-weaker ComesEarlier Before (λ row. row.worker ≡ p) (comes_before p) (rows_of p rows) owns earlier)
     (along listed rows (IsPermutation-sym rows listed moved)) (along rows listed moved)
 
 -- ---- rolled lines
-
-precede_ordered : (lines : List Rolled) → PrecedeAll lines → Ordered MayPrecede lines
-precede_ordered [] precede = tt
-precede_ordered (rolled ∷ lines) precede = (precede.0, precede_ordered lines precede.1)
-
-precede_each : (lines : List Rolled) → Ordered MayPrecede lines → PrecedeEach lines
-precede_each [] order = tt
-precede_each (rolled ∷ lines) order = (order.0, precede_each lines order.1)
 
 module _ (lines : List Rolled) where
   pub owned : (p : ℕ) → AllByRecursion (λ rolled. rolled.worker ≡ p) (rolled_of p lines)
@@ -75,11 +66,11 @@ module _ (lines : List Rolled) where
       precedes first second less = record { worker = omega arith; number = λ same. absurd (omega arith); prefix = λ same. absurd (omega arith) }
 
   -- And so they may all stand.
-  pub lines_in_order : (n : ℕ) → ((p : ℕ) → IsBetween 1 n p → PrecedeAll (rolled_of p lines)) → PrecedeEach (flat_map (λ q. rolled_of q lines) (range_with_len 1 n))
+  pub lines_in_order : (n : ℕ) → ((p : ℕ) → IsBetween 1 n p → Ordered MayPrecede (rolled_of p lines)) → AllPairs MayPrecede (flat_map (λ q. rolled_of q lines) (range_with_len 1 n))
   lines_in_order n each =
       let part : ℕ → List Rolled = λ q. rolled_of q lines in
-      precede_each (flat_map part (range_with_len 1 n))
+      all_pairs MayPrecede (flat_map part (range_with_len 1 n))
       (Ordered-flat_map MayPrecede part (range_with_len 1 n)
-      (each_weaker (IsBetween 1 n) (λ p. Ordered MayPrecede (part p)) (λ p within. precede_ordered (part p) (each p within)) (range_with_len 1 n) (each_in_range 1 n))
+      (each_weaker (IsBetween 1 n) (λ p. Ordered MayPrecede (part p)) each (range_with_len 1 n) (each_in_range 1 n))
       (Ordered-weaker (λ p q. p < q) (λ p q. AllByRecursion (λ first. AllByRecursion (MayPrecede first) (part q)) (part p)) (IsBetween 1 n) (λ p q here there less. across p q less)
       (range_with_len 1 n) (each_in_range 1 n) (range_ascends 1 n)))
