@@ -3,6 +3,7 @@ use Rattle.std.specs.Prelude.{◌≡◌, ℕ, suc, ◌+◌, ◌-◌, ◌<◌, �
 use Rattle.std.specs.List.{AllByRecursion, range_with_len}
 use Rattle.stm_model.specs.Evidence.{Evidence}
 use Rattle.stm_model.specs.Pairs.{KeysAscend}
+use Rattle.stm_model.specs.Safe.{EndsWith}
 use Rattle.stm_model.specs.Telling.{Extends}
 use Rattle.stm_model.specs.declared.cause.Cause.TheVariants.{Retry}
 use Rattle.stm_model.specs.declared.settings.Settings.{Settings}
@@ -177,16 +178,11 @@ pub record TellsRolled (job : Job) (settings : Settings) (rows : List Row) (roll
 
 -- ---- what is left
 
--- the list ends with this
-pub record IsLast {T : Type 0} (entry : T) (list : List T) : Type 0 where
-  pub front : List T
-  pub whole : list ≡ front ++ entry ∷ []
-
 -- The script retries on what all writers left, and its worker's last attempt asked for that retry there.
 pub record IsBlocked (job : Job) (listing : Listing) (name : ℕ × ℕ) : Type 0 where
   pub retries : (run_of job name.0 name.1 (contents_after job listing.rows (writer_count listing.rows))).end ≡ Retried
   pub rolled : Rolled
-  pub last : IsLast rolled (rolled_of name.0 listing.rolled)
+  pub last : EndsWith (rolled_of name.0 listing.rolled) (rolled ∷ [])
   pub number : rolled.number ≡ name.1
   pub cause : rolled.cause ≡ Retry
   pub prefix : rolled.prefix ≡ writer_count listing.rows

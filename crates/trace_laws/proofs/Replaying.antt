@@ -6,6 +6,7 @@ use Rattle.std.proofs.lemmas.Bool.Decides.{nat_tests}
 use Rattle.std.proofs.lemmas.List.Elements.{filter-append}
 use Rattle.stm_model.specs.History.{Entry}
 use Rattle.stm_model.specs.Pairs.{KeysAscend}
+use Rattle.stm_model.specs.Safe.{EndsWith}
 use Rattle.stm_model.specs.declared.cause.Cause.TheVariants.{Retry}
 use Rattle.stm_model.specs.declared.ending.Ending.{Ending}
 use Rattle.stm_model.specs.declared.ending.Ending.TheVariants.{Rolled as RolledBack}
@@ -16,7 +17,7 @@ use Rattle.ledger_model.specs.declared.listing.Listing.{Listing}
 use Rattle.ledger_model.specs.declared.listing.Rolled.{Rolled}
 use Rattle.ledger_model.specs.declared.listing.Row.{Row}
 use Rattle.ledger_model.specs.Run.{Retried}
-use Rattle.ledger_model.specs.Replays.{AreStamped, ArePlaced, ComesBefore, CountsAttempts, IsBlocked, IsLast, IsPlaced, ListsJob, ListsScripts, MayPrecede, NamesScript, Replays, TellsReader, TellsRolled, TellsWriter, attempts_of, contents_after, names_of, others_of, rolled_of, rows_of, run_of, scripts_of, settled_by, writer_count, writers_of}
+use Rattle.ledger_model.specs.Replays.{AreStamped, ArePlaced, ComesBefore, CountsAttempts, IsBlocked, IsPlaced, ListsJob, ListsScripts, MayPrecede, NamesScript, Replays, TellsReader, TellsRolled, TellsWriter, attempts_of, contents_after, names_of, others_of, rolled_of, rows_of, run_of, scripts_of, settled_by, writer_count, writers_of}
 use Rattle.ledger_model.specs.Traced.{IsListed, Trace, attempt_in, has_left, is_parked, left_where, retried_at, workers_of}
 use Rattle.trace_laws.proofs.Tracked.{ComesEarlier, ShowsRolled, ShowsRow, StandsBetween, contents_at, run_at}
 use Rattle.trace_laws.proofs.Left.{each_left, left_ascends, worker_left}
@@ -191,7 +192,7 @@ module _ {lawful : List ℕ → Type 0} {may : List ℕ → List ℕ → Type 0}
       let retried = (rests r p within).retried asked.0 asked.1 in
       let line = retried.0 in
       let last = retried.1 in
-      let has : Has line (rolled_of p s.rolled) = subst (λ (lines : List Rolled). Has line lines) (sym last.whole) (Has-middle last.front line []) in
+      let has : Has line (rolled_of p s.rolled) = subst (λ (lines : List Rolled). Has line lines) (sym last.1) (Has-middle last.0 line []) in
       let own : line.worker ≡ p = each_has (λ line. line.worker ≡ p) (rolled_of p s.rolled) line (owned s.rolled p) has in
       let shows = each_has (ShowsRolled job settings h) (rolled_of p s.rolled) line (shown_lines p) has in
       let prefix : line.prefix ≡ length h = retried.4 ∙ asked.2 ∙ r.tracked.safe.clock in
@@ -200,7 +201,7 @@ module _ {lawful : List ℕ → Type 0} {may : List ℕ → List ℕ → Type 0}
       record {
         retries = subst (λ (contents : Contents). (run_of job p (suc (settled_by s.rows p)) contents).end ≡ Retried) (sym contents_whole) here;
         rolled = line;
-        last = subst (λ (lines : List Rolled). IsLast line lines) (sym (lines_alike p within)) last;
+        last = subst (λ (lines : List Rolled). EndsWith lines (line ∷ [])) (sym (lines_alike p within)) last;
         number = retried.2;
         cause = retried.3;
         prefix = prefix ∙ sym counted;

@@ -198,7 +198,7 @@ module _ {lawful : List ℕ → Type 0} {may : List ℕ → List ℕ → Type 0}
           rests = record {
             nothing_due = nothing_due;
             made = omega (arith, line_more, made);
-            retried = λ prefix is. let so = retried prefix is in (line, record { front = rolled_of p s.rolled; whole = own_lines }, number, so.0, so.1);
+            retried = λ prefix is. let so = retried prefix is in (line, (rolled_of p s.rolled, own_lines), number, so.0, so.1);
           };
           accounted = λ n within. accounted_still n (old.around.accounted n within);
         }

@@ -6,7 +6,7 @@ use Rattle.opacity.specs.Known.{IsKnown}
 use Rattle.stm_model.specs.Attempt.{Announce, Ended, stamp_of}
 use Rattle.stm_model.specs.Evidence.{Evidence}
 use Rattle.stm_model.specs.History.{Entry, entry_after, state}
-use Rattle.stm_model.specs.Safe.{Safe, caller_at}
+use Rattle.stm_model.specs.Safe.{EndsWith, Safe, caller_at}
 use Rattle.stm_model.specs.Telling.{Extends}
 use Rattle.stm_model.specs.declared.cause.Cause.TheVariants.{Retry}
 use Rattle.stm_model.specs.declared.ending.Ending.TheVariants.{Rolled as RolledBack}
@@ -18,7 +18,7 @@ use Rattle.ledger_model.specs.declared.listing.Row.{Row}
 use Rattle.ledger_model.specs.declared.listing.RowResult.{RowResult}
 use Rattle.ledger_model.specs.declared.listing.RowResult.TheVariants.{Done, Fail, Spent, Full}
 use Rattle.ledger_model.specs.Contents.{opening_contents}
-use Rattle.ledger_model.specs.Replays.{IsLast, MayPrecede, NamesScript, block_of, rolled_of, rows_of, run_of, scripts_of, settled_by}
+use Rattle.ledger_model.specs.Replays.{MayPrecede, NamesScript, block_of, rolled_of, rows_of, run_of, scripts_of, settled_by}
 use Rattle.ledger_model.specs.Report.{has_text}
 use Rattle.ledger_model.specs.Run.{Outcome, Retried}
 use Rattle.ledger_model.specs.Settle.{Settled, Commits, Fails, OnlyReads, Spends, handler_runs, settle}
@@ -122,7 +122,7 @@ pub record Rests (s : Trace) (p : ℕ) : Type 0 where
   pub nothing_due : (attempt_in s p).due ≡ []
   pub made : over_of s p ≡ (attempt_in s p).serial
   pub retried : (prefix : ℕ) → (attempt_in s p).ending ≡ Some (RolledBack Retry prefix) →
-      (rolled : Rolled) × IsLast rolled (rolled_of p s.rolled) × (rolled.number ≡ suc (settled_by s.rows p)) × (rolled.cause ≡ Retry) × (rolled.prefix ≡ prefix)
+      (rolled : Rolled) × EndsWith (rolled_of p s.rolled) (rolled ∷ []) × (rolled.number ≡ suc (settled_by s.rows p)) × (rolled.cause ≡ Retry) × (rolled.prefix ≡ prefix)
 
 pub record TracksWorker (job : Job) (settings : Settings) (s : Trace) (p : ℕ) : Type 0 where
   pub lists : ListsWorker job s p
