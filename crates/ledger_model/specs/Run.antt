@@ -108,7 +108,7 @@ pub record Known : Type 0 where
 
 -- what comes next, where this was kept
 abbrev pub and_then : Outcome → Meaning → Outcome
-and_then o next = elim o.end [ Kept ↦ next o.after | Failed code ↦ o | Retried ↦ o ]
+and_then o next = elim o.end [ Kept ↦ next o.after | _ ↦ o ]
 
 -- one part after another, up to the first that isn't kept
 abbrev pub in_turn : List Known → Meaning
@@ -116,8 +116,7 @@ in_turn [] s = kept s
 in_turn (part ∷ parts) s = and_then (part.does s) (in_turn parts)
 
 abbrev pub undone_unless_kept : State → Outcome → Outcome
-undone_unless_kept before o =
-    elim o.end [ Kept ↦ o | Failed code ↦ record o { after = undone before o.after } | Retried ↦ record o { after = undone before o.after } ]
+undone_unless_kept before o = elim o.end [ Kept ↦ o | _ ↦ record o { after = undone before o.after } ]
 
 -- a nested block, undone where it isn't kept
 abbrev pub nested : List Known → Meaning
@@ -129,7 +128,7 @@ caught r o = elim o.end [ Kept ↦ kept (set_register r 0 o.after) | Failed code
 
 -- what comes next, where this retries
 abbrev pub or_else : Outcome → Meaning → Outcome
-or_else o next = elim o.end [ Kept ↦ o | Failed code ↦ o | Retried ↦ next o.after ]
+or_else o next = elim o.end [ Retried ↦ next o.after | _ ↦ o ]
 
 -- the first part that doesn't retry
 abbrev pub either : List (List Known) → Meaning

@@ -55,8 +55,7 @@ tells this rest = Asks this (λ answer. rest)
 -- the rest of a block, where this part of it was kept
 abbrev pub if_kept : (Own → Talk) → Next → Next
 if_kept rest next Kept s = rest s
-if_kept rest next (Failed code) s = next (Failed code) s
-if_kept rest next Retried s = next Retried s
+if_kept rest next end s = next end s
 
 -- one statement after another, up to the first that isn't kept
 abbrev pub all_of : List Spoken → Part
@@ -70,8 +69,7 @@ back_to registers count s = record { registers = registers; lates = take count s
 -- The end of a level: it is kept, or else undone.
 abbrev pub closed : List ℕ → ℕ → Next → Next
 closed registers count next Kept s = tells ask.Keep (next Kept s)
-closed registers count next (Failed code) s = tells ask.Undo (next (Failed code) (back_to registers count s))
-closed registers count next Retried s = tells ask.Undo (next Retried (back_to registers count s))
+closed registers count next end s = tells ask.Undo (next end (back_to registers count s))
 
 -- a nested block
 abbrev pub level : List Spoken → Part
@@ -85,9 +83,8 @@ catching r next Retried s = next Retried s
 
 -- another part, where this one retries
 abbrev pub if_retried : (Own → Talk) → Next → Next
-if_retried other next Kept s = next Kept s
-if_retried other next (Failed code) s = next (Failed code) s
 if_retried other next Retried s = other s
+if_retried other next end s = next end s
 
 -- the first part that doesn't retry
 abbrev pub first_of_them : List (List Spoken) → Part
