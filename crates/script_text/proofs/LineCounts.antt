@@ -71,22 +71,7 @@ layers : (y : Statement-F One)
 layers (layer.Inner r block) = enclosed (sum (map size (map plain block))) (codes "inner" ∷ register_word r ∷ []) (joined (map statement_lines (map plain block))) (inside block)
 layers (layer.Either parts) = enclosed (sum_by sum (map (map size) (map (map plain) parts))) (codes "either" ∷ []) (parts_lines (map (map statement_lines) (map (map plain) parts))) (in_parts parts)
 layers (layer.Late block) = enclosed (sum (map size (map plain block))) (codes "late" ∷ []) (joined (map statement_lines (map plain block))) (inside block)
-layers (layer.Const r n) = omega arith
-layers (layer.Read r cell) = omega arith
-layers (layer.Write cell x) = omega arith
-layers (layer.Add r x) = omega arith
-layers (layer.Sub r x) = omega arith
-layers (layer.Print x) = omega arith
-layers (layer.Check x y code) = omega arith
-layers (layer.Need x y) = omega arith
-layers (layer.Move from into x) = omega arith
-layers (layer.Hook phase token) = omega arith
-layers (layer.Put m x y) = omega arith
-layers (layer.Del m x) = omega arith
-layers (layer.Look r m x y) = omega arith
-layers (layer.LookSlot r k x y) = omega arith
-layers (layer.Snap k m) = omega arith
-layers (layer.Share from into) = omega arith
+layers _ = omega arith
 
 statement_has_lines : (m : Statement) → HasLines m
 statement_has_lines = ind-Statement HasLines (λ x y are.
