@@ -1,5 +1,5 @@
 -- The lines of a report are rows of words, and they tell the listing.
-use Rattle.std.proofs.Common.{◌≡◌, ℕ, Bool, true, false, not, cond, IsTrue, List, [], ◌∷◌, ◌++◌, map, length, refl, ap, ◌∙◌, sym, codes, decimal}
+use Rattle.std.proofs.Common.{◌≡◌, ◌-◌, ℕ, Bool, true, false, not, cond, IsTrue, List, [], ◌∷◌, ◌++◌, map, length, refl, ap, ◌∙◌, sym, codes, decimal}
 use Rattle.std.proofs.lemmas.Fmt.{decimal_injective}
 use Rattle.std.specs.List.{AllByRecursion, enumerate_from}
 use Rattle.std.specs.Str.{bytes_eq}
@@ -17,7 +17,7 @@ use Rattle.ledger_model.specs.declared.listing.Listing.{Listing}
 use Rattle.ledger_model.specs.declared.listing.Row.{Row}
 use Rattle.ledger_model.specs.declared.listing.RowResult.{RowResult}
 use Rattle.ledger_model.specs.declared.listing.RowResult.TheVariants.{Done, Fail, Spent, Full}
-use Rattle.ledger_model.specs.Replays.{Replays, TellsReader, TellsResult, TellsRolled, TellsWriter, contents_after, others_of, run_of, writer_count, writers_of}
+use Rattle.ledger_model.specs.Replays.{Replays, TellsReader, TellsResult, TellsRolled, TellsWriter, others_of, run_after, writer_count, writers_of}
 use Rattle.ledger_model.specs.Run.{Outcome}
 use Rattle.ledger_model.specs.Report.{name_word, row_line, has_text, rolled_line, left_line, ref_line, ref_lines, pair_lines, contents_lines, rolled_and_left_lines, closing_lines, report_lines, report}
 use Rattle.ledger_model.specs.Reported.{HaveAsMany, HaveTexts, IsReportedWhole, PrintsIfDone, ShowsDoom}
@@ -177,9 +177,9 @@ result_prints (Full used allowance) settings row outcome h = absurd h
 rows_print : (job : Job) (settings : Settings) (a : Listing) → Replays job settings a → AllByRecursion (λ row. PrintsIfDone row.result row.prints) a.rows
 rows_print job settings a h =
     all_rows (λ row. PrintsIfDone row.result row.prints) a.rows
-    (all_weaker (TellsWriter job settings a.rows) (λ row. PrintsIfDone row.result row.prints) (λ row t. done_prints row.result row.prints t.done) (writers_of a.rows) h.writers)
-    (all_weaker (TellsReader job settings a.rows) (λ row. PrintsIfDone row.result row.prints)
-    (λ row t. result_prints row.result settings row (run_of job row.worker row.number (contents_after job a.rows row.position)) t.tells) (others_of a.rows) h.others)
+    (all_weaker (λ row. TellsWriter settings row (run_after job a.rows (row.position - 1) row.worker row.number)) (λ row. PrintsIfDone row.result row.prints) (λ row t. done_prints row.result row.prints t.done) (writers_of a.rows) h.writers)
+    (all_weaker (λ row. TellsReader settings row (run_after job a.rows row.position row.worker row.number)) (λ row. PrintsIfDone row.result row.prints)
+    (λ row t. result_prints row.result settings row (run_after job a.rows row.position row.worker row.number) t.tells) (others_of a.rows) h.others)
 
 shows_doom : (own : ℕ) (settings : Settings) (cause : Cause) → Evidence own settings cause → ShowsDoom cause
 unfolding Evidence
@@ -188,13 +188,13 @@ shows_doom own settings _ h = tt
 
 -- each rolled attempt of a listing that replays a job has a cause that a report can name
 pub replay_texts : (job : Job) (settings : Settings) (a : Listing) → Replays job settings a → HaveTexts a
-replay_texts job settings a h = all_weaker (TellsRolled job settings a.rows) (λ rolled. IsTrue (has_text rolled.cause)) (λ rolled t. t.cause) a.rolled h.rolled
+replay_texts job settings a h = all_weaker (λ rolled. TellsRolled job settings rolled (run_after job a.rows rolled.prefix rolled.worker rolled.number)) (λ rolled. IsTrue (has_text rolled.cause)) (λ rolled t. t.cause) a.rolled h.rolled
 
 replay_shown : (job : Job) (settings : Settings) (a : Listing) → Replays job settings a → IsReportedWhole a
 replay_shown job settings a h = record {
   texts = replay_texts job settings a h;
   prints = rows_print job settings a h;
-  dooms = all_weaker (TellsRolled job settings a.rows) (λ rolled. ShowsDoom rolled.cause)
+  dooms = all_weaker (λ rolled. TellsRolled job settings rolled (run_after job a.rows rolled.prefix rolled.worker rolled.number)) (λ rolled. ShowsDoom rolled.cause)
       (λ rolled t. shows_doom rolled.worker settings rolled.cause t.evidence) a.rolled h.rolled;
 }
 

@@ -66,6 +66,10 @@ after_writers job (row ∷ rows) contents = after_writers job rows (left_by job 
 abbrev pub contents_after : Job → List Row → ℕ → Contents
 contents_after job rows n = after_writers job (take n (writers_of rows)) (opening_contents job)
 
+-- what a script does, run alone on these contents
+abbrev pub run_after : Job → List Row → (n worker number : ℕ) → Outcome
+run_after job rows n worker number = run_of job worker number (contents_after job rows n)
+
 -- ---- what a row says
 
 -- The script that gave this outcome after so many writers is settled like this, and the row has these prints and the runs of its handlers.
@@ -74,12 +78,11 @@ pub record Tells (settings : Settings) (row : Row) (outcome : Outcome) (writers 
   pub printed : row.prints ≡ prints
   pub runs : row.runs ≡ handler_runs how outcome.after
 
--- a committed writer, on what the writers before it left
-pub record TellsWriter (job : Job) (settings : Settings) (rows : List Row) (row : Row) : Type 0 where
+-- a committed writer, whose script gave this outcome after the writers before it
+pub record TellsWriter (settings : Settings) (row : Row) (outcome : Outcome) : Type 0 where
   pub done : row.result ≡ Done
-  pub tells : let outcome = run_of job row.worker row.number (contents_after job rows (row.position - 1)) in
-      Tells settings row outcome (row.position - 1) Commits outcome.after.prints
-  pub drawn : row.drawn ≤ allowance (run_of job row.worker row.number (contents_after job rows (row.position - 1))).after
+  pub tells : Tells settings row outcome (row.position - 1) Commits outcome.after.prints
+  pub drawn : row.drawn ≤ allowance outcome.after
 
 -- What a script that committed no write was settled as: it only read, it failed, or the clock was at its limit. So far none finds the blocks used up.
 abbrev pub TellsResult : RowResult → Settings → Row → Outcome → Type 0
@@ -88,9 +91,9 @@ TellsResult (Fail code) settings row outcome = Tells settings row outcome row.po
 TellsResult Spent settings row outcome = Tells settings row outcome row.position Spends []
 TellsResult (Full used allowance) settings row outcome = ⊥
 
--- any other script, on what the writers up to its position left
-pub record TellsReader (job : Job) (settings : Settings) (rows : List Row) (row : Row) : Type 0 where
-  pub tells : TellsResult row.result settings row (run_of job row.worker row.number (contents_after job rows row.position))
+-- any other script, which gave this outcome after the writers up to its position
+pub record TellsReader (settings : Settings) (row : Row) (outcome : Outcome) : Type 0 where
+  pub tells : TellsResult row.result settings row outcome
   pub drawn : row.drawn ≡ 0
 
 -- ---- how the rows stand
@@ -168,19 +171,19 @@ pub record HasRetried (rolled : Rolled) (outcome : Outcome) : Type 0 where
   pub retries : outcome.end ≡ Retried
   pub whole : rolled.trail ≡ outcome.after.trail
 
--- What it printed is how its script begins on what the writers up to its prefix left, and its cause shows what it has to. Who works alone is rolled back by a retry alone.
-pub record TellsRolled (job : Job) (settings : Settings) (rows : List Row) (rolled : Rolled) : Type 0 where
-  pub trail : Extends rolled.trail (run_of job rolled.worker rolled.number (contents_after job rows rolled.prefix)).after.trail
+-- Its script gives this outcome after the writers up to its prefix. What it printed is how that begins, and its cause shows what it has to. Who works alone is rolled back by a retry alone.
+pub record TellsRolled (job : Job) (settings : Settings) (rolled : Rolled) (outcome : Outcome) : Type 0 where
+  pub trail : Extends rolled.trail outcome.after.trail
   pub cause : IsTrue (has_text rolled.cause)
   pub evidence : Evidence rolled.worker settings rolled.cause
-  pub retry : rolled.cause ≡ Retry → HasRetried rolled (run_of job rolled.worker rolled.number (contents_after job rows rolled.prefix))
+  pub retry : rolled.cause ≡ Retry → HasRetried rolled outcome
   pub alone : length job.workers ≡ 1 → rolled.cause ≡ Retry
 
 -- ---- what is left
 
 -- The script retries on what all writers left, and its worker's last attempt asked for that retry there.
 pub record IsBlocked (job : Job) (listing : Listing) (name : ℕ × ℕ) : Type 0 where
-  pub retries : (run_of job name.0 name.1 (contents_after job listing.rows (writer_count listing.rows))).end ≡ Retried
+  pub retries : (run_after job listing.rows (writer_count listing.rows) name.0 name.1).end ≡ Retried
   pub rolled : Rolled
   pub last : EndsWith (rolled_of name.0 listing.rolled) (rolled ∷ [])
   pub number : rolled.number ≡ name.1
@@ -203,12 +206,12 @@ pub record Replays (job : Job) (settings : Settings) (listing : Listing) : Type 
   pub in_order : InOrder listing.rows
   pub stamped : AreStamped listing.rows
   pub listed : ListsJob job listing
-  pub writers : AllByRecursion (TellsWriter job settings listing.rows) (writers_of listing.rows)
-  pub others : AllByRecursion (TellsReader job settings listing.rows) (others_of listing.rows)
+  pub writers : AllByRecursion (λ row. TellsWriter settings row (run_after job listing.rows (row.position - 1) row.worker row.number)) (writers_of listing.rows)
+  pub others : AllByRecursion (λ row. TellsReader settings row (run_after job listing.rows row.position row.worker row.number)) (others_of listing.rows)
   -- no more blocks are ever in use than there are
   pub used : (n : ℕ) → (contents_after job listing.rows n).used ≤ blocks_of job
   pub placed : ArePlaced listing
-  pub rolled : AllByRecursion (TellsRolled job settings listing.rows) listing.rolled
+  pub rolled : AllByRecursion (λ rolled. TellsRolled job settings rolled (run_after job listing.rows rolled.prefix rolled.worker rolled.number)) listing.rolled
   pub blocked : AllByRecursion (IsBlocked job listing) listing.blocked
   pub attempts : CountsAttempts settings listing
   pub contents : listing.contents ≡ contents_after job listing.rows (writer_count listing.rows)

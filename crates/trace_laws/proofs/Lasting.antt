@@ -12,12 +12,10 @@ use Rattle.ledger_model.specs.declared.job.Job.{Job}
 use Rattle.ledger_model.specs.declared.listing.Rolled.{Rolled}
 use Rattle.ledger_model.specs.declared.listing.Row.{Row}
 use Rattle.ledger_model.specs.Contents.{opening_contents}
-use Rattle.ledger_model.specs.Replays.{rolled_of, rows_of, run_of, settled_by}
-use Rattle.ledger_model.specs.Run.{Retried}
-use Rattle.ledger_model.specs.Settle.{Commits}
+use Rattle.ledger_model.specs.Replays.{TellsReader, TellsRolled, TellsWriter, rolled_of, rows_of, run_of, settled_by}
 use Rattle.ledger_model.specs.Traced.{Trace, attempt_in, is_flying}
 use Rattle.trace_laws.proofs.Told.{with_refs}
-use Rattle.trace_laws.proofs.Tracked.{Flies, ListsWorker, Rests, Shows, ShowsResult, ShowsRolled, ShowsRow, ShowsWriter, TracksWorker, contents_at, over_of}
+use Rattle.trace_laws.proofs.Tracked.{Flies, ListsWorker, Rests, ShowsRolled, ShowsRow, ShowsWriter, TracksWorker, contents_at, over_of}
 use Rattle.trace_laws.proofs.Lists.{each_weaker}
 
 -- ---- rows and rolled lines
@@ -35,33 +33,25 @@ module _ (job : Job) (settings : Settings) (h more : List Entry) where
       let before = contents_last (row.position - 1) (omega (arith, low)) in
       record {
         from = shows.from;
-        done = shows.done;
         own = ap (λ (entry : Entry). entry.caller) (entry_after-append h more (row.position - 1) (omega (arith, low, above))) ∙ shows.own;
-        shows = subst (λ (contents : Contents). let outcome = run_of job row.worker row.number contents in Shows row outcome (row.position - 1) settings.clock Commits outcome.after.prints) (sym before) shows.shows;
+        tells = subst (λ (contents : Contents). TellsWriter settings row (run_of job row.worker row.number contents)) (sym before) shows.tells;
         leaves = ap (λ (contents : Contents). (run_of job row.worker row.number contents).after.contents) before ∙ shows.leaves ∙ sym (contents_last row.position low);
       }
 
   pub row_lasts : (row : Row) → ShowsRow job settings h row → ShowsRow job settings (h ++ more) row
   row_lasts row shows = record { named = shows.named; to = longer row.position shows.to; drawn = shows.drawn; script = go row.writer shows.script }
     where
-      go : (writer : Bool) → MatchBool writer (ShowsWriter job settings h row) (ShowsResult row.result row (run_of job row.worker row.number (contents_at job h row.position)) settings.clock)
-          → MatchBool writer (ShowsWriter job settings (h ++ more) row) (ShowsResult row.result row (run_of job row.worker row.number (contents_at job (h ++ more) row.position)) settings.clock)
+      go : (writer : Bool) → MatchBool writer (ShowsWriter job settings h row) (TellsReader settings row (run_of job row.worker row.number (contents_at job h row.position)))
+          → MatchBool writer (ShowsWriter job settings (h ++ more) row) (TellsReader settings row (run_of job row.worker row.number (contents_at job (h ++ more) row.position)))
       go true script = writer_lasts row shows.to script
-      go false script = subst (λ (contents : Contents). ShowsResult row.result row (run_of job row.worker row.number contents) settings.clock) (sym (contents_last row.position shows.to)) script
+      go false script = subst (λ (contents : Contents). TellsReader settings row (run_of job row.worker row.number contents)) (sym (contents_last row.position shows.to)) script
 
   pub rolled_lasts : (rolled : Rolled) → ShowsRolled job settings h rolled → ShowsRolled job settings (h ++ more) rolled
-  rolled_lasts rolled shows =
-      let same = sym (contents_last rolled.prefix shows.to) in
-      record {
-        named = shows.named;
-        to = longer rolled.prefix shows.to;
-        trail = subst (λ (contents : Contents). Extends rolled.trail (run_of job rolled.worker rolled.number contents).after.trail) same shows.trail;
-        cause = shows.cause;
-        evidence = shows.evidence;
-        retry = λ is. subst (λ (contents : Contents). ((run_of job rolled.worker rolled.number contents).end ≡ Retried)
-            × (rolled.trail ≡ (run_of job rolled.worker rolled.number contents).after.trail)) same (shows.retry is);
-        alone = shows.alone;
-      }
+  rolled_lasts rolled shows = record {
+    named = shows.named;
+    to = longer rolled.prefix shows.to;
+    tells = subst (λ (contents : Contents). TellsRolled job settings rolled (run_of job rolled.worker rolled.number contents)) (sym (contents_last rolled.prefix shows.to)) shows.tells;
+  }
 
 module _ (job : Job) (settings : Settings) (h g : List Entry) (grows : Extends h g) where
   pub rows_last : (rows : List Row) → AllByRecursion (ShowsRow job settings h) rows → AllByRecursion (ShowsRow job settings g) rows

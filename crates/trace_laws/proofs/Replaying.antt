@@ -1,5 +1,5 @@
 -- The listing of a tracked trace in which it is nobody's turn replays the job.
-use Rattle.std.proofs.Common.{◌≡◌, ◌≢◌, inl, inr, ℕ, suc, ◌+◌, ◌<◌, ◌≤◌, Bool, true, false, not, ◌&&◌, cond, if◌then◌else◌, nat_eq, nat_lt, List, [], ◌∷◌, ◌++◌, length, map, Option, Some, refl, sym, ap, subst, ◌∙◌, arith}
+use Rattle.std.proofs.Common.{◌≡◌, ◌≢◌, inl, inr, ℕ, suc, ◌+◌, ◌-◌, ◌<◌, ◌≤◌, Bool, true, false, not, ◌&&◌, cond, if◌then◌else◌, nat_eq, nat_lt, List, [], ◌∷◌, ◌++◌, length, map, Option, Some, refl, sym, ap, subst, ◌∙◌, arith}
 use Rattle.std.specs.List.{AllByRecursion, AllPairs, range_with_len}
 use Rattle.std.proofs.lemmas.Bool.{both_ways, cases_lt, eqb-true, ltb-true, ltb-false, ne_eqb, not-true}
 use Rattle.std.proofs.lemmas.Bool.Decides.{nat_tests}
@@ -17,7 +17,7 @@ use Rattle.ledger_model.specs.declared.listing.Listing.{Listing}
 use Rattle.ledger_model.specs.declared.listing.Rolled.{Rolled}
 use Rattle.ledger_model.specs.declared.listing.Row.{Row}
 use Rattle.ledger_model.specs.Run.{Retried}
-use Rattle.ledger_model.specs.Replays.{AreStamped, ArePlaced, ComesBefore, CountsAttempts, IsBlocked, IsPlaced, ListsJob, ListsScripts, MayPrecede, NamesScript, Replays, TellsReader, TellsRolled, TellsWriter, attempts_of, contents_after, names_of, others_of, rolled_of, rows_of, run_of, scripts_of, settled_by, writer_count, writers_of}
+use Rattle.ledger_model.specs.Replays.{AreStamped, ArePlaced, ComesBefore, CountsAttempts, IsBlocked, IsPlaced, ListsJob, ListsScripts, MayPrecede, NamesScript, Replays, TellsReader, TellsRolled, TellsWriter, attempts_of, contents_after, names_of, others_of, rolled_of, rows_of, run_after, run_of, scripts_of, settled_by, writer_count, writers_of}
 use Rattle.ledger_model.specs.Traced.{IsListed, Trace, attempt_in, has_left, is_parked, left_where, retried_at, workers_of}
 use Rattle.trace_laws.proofs.Tracked.{ComesEarlier, ShowsRolled, ShowsRow, StandsBetween, contents_at, run_at}
 use Rattle.trace_laws.proofs.Left.{each_left, left_ascends, worker_left}
@@ -84,15 +84,25 @@ module _ {lawful : List ℕ → Type 0} {may : List ℕ → List ℕ → Type 0}
   alike : (k : ℕ) → k ≤ length h → contents_after job listing.rows k ≡ contents_at job h k
   alike = left_alike job settings h s.rows listing.rows is.rows is.in_order r.tracked.rows earlier (written r)
 
-  writers : AllByRecursion (TellsWriter job settings listing.rows) (writers_of listing.rows)
-  writers =
-      each_passing (λ row. row.writer) (TellsWriter job settings listing.rows) listing.rows
-      (each_weaker (ShowsRow job settings h) (λ row. row.writer ≡ true → TellsWriter job settings listing.rows row) (tells_writer job settings h listing.rows alike) listing.rows shown_rows)
+  -- what the listing is to tell of a writer, of another row and of a rolled line
+  abbrev Writes : Row → Type 0
+  Writes row = TellsWriter settings row (run_after job listing.rows (row.position - 1) row.worker row.number)
 
-  others : AllByRecursion (TellsReader job settings listing.rows) (others_of listing.rows)
+  abbrev Reads : Row → Type 0
+  Reads row = TellsReader settings row (run_after job listing.rows row.position row.worker row.number)
+
+  abbrev RollsBack : Rolled → Type 0
+  RollsBack line = TellsRolled job settings line (run_after job listing.rows line.prefix line.worker line.number)
+
+  writers : AllByRecursion Writes (writers_of listing.rows)
+  writers =
+      each_passing (λ row. row.writer) Writes listing.rows
+      (each_weaker (ShowsRow job settings h) (λ row. row.writer ≡ true → Writes row) (tells_writer job settings h listing.rows alike) listing.rows shown_rows)
+
+  others : AllByRecursion Reads (others_of listing.rows)
   others =
-      each_passing (λ row. not row.writer) (TellsReader job settings listing.rows) listing.rows
-      (each_weaker (ShowsRow job settings h) (λ row. not row.writer ≡ true → TellsReader job settings listing.rows row)
+      each_passing (λ row. not row.writer) Reads listing.rows
+      (each_weaker (ShowsRow job settings h) (λ row. not row.writer ≡ true → Reads row)
       (λ row shows passes. tells_reader job settings h listing.rows alike row shows (not-true row.writer passes)) listing.rows shown_rows)
 
   -- ---- the rows and rolled lines of a worker
@@ -116,8 +126,8 @@ module _ {lawful : List ℕ → Type 0} {may : List ℕ → List ℕ → Type 0}
   each_shown : (P : Rolled → Type 0) → ((rolled : Rolled) → ShowsRolled job settings h rolled → P rolled) → AllByRecursion P listing.rolled
   each_shown P f = each_line P (λ p within. each_weaker (ShowsRolled job settings h) P f (rolled_of p s.rolled) (shown_lines p))
 
-  rolled : AllByRecursion (TellsRolled job settings listing.rows) listing.rolled
-  rolled = each_shown (TellsRolled job settings listing.rows) (λ line shows. tells_rolled job settings h listing.rows alike line shows r.fits.callers)
+  rolled : AllByRecursion RollsBack listing.rolled
+  rolled = each_shown RollsBack (tells_rolled job settings h listing.rows alike)
 
   -- ---- places
 
@@ -196,7 +206,7 @@ module _ {lawful : List ℕ → Type 0} {may : List ℕ → List ℕ → Type 0}
       let own : line.worker ≡ p = each_has (λ line. line.worker ≡ p) (rolled_of p s.rolled) line (owned s.rolled p) has in
       let shows = each_has (ShowsRolled job settings h) (rolled_of p s.rolled) line (shown_lines p) has in
       let prefix : line.prefix ≡ length h = retried.4 ∙ asked.2 ∙ r.tracked.safe.clock in
-      let there = (shows.retry retried.3).0 in
+      let there = (shows.tells.retry retried.3).retries in
       let here : (run_at job h p (suc (settled_by s.rows p)) (length h)).end ≡ Retried = retries_here job h _ _ _ _ _ _ own retried.2 prefix there in
       record {
         retries = subst (λ (contents : Contents). (run_of job p (suc (settled_by s.rows p)) contents).end ≡ Retried) (sym contents_whole) here;

@@ -1,5 +1,5 @@
 -- What a worker's attempt shows at its end, by how it ended, and that the trace is tracked then. Here s is the trace before and p the worker.
-use Rattle.std.proofs.Common.{◌≡◌, ℕ, suc, ◌-◌, ◌^◌, ◌<◌, ◌≤◌, Bool, true, false, IsTrue, MatchBool, nat_lt, if◌then◌else◌, List, [], length, get_or, Option, Some, None, refl, sym, ap, ◌∙◌, subst, arith, inl, inr}
+use Rattle.std.proofs.Common.{◌≡◌, ℕ, suc, ◌-◌, ◌^◌, ◌<◌, ◌≤◌, Bool, true, false, IsTrue, MatchBool, nat_lt, if◌then◌else◌, max, List, [], length, get_or, Option, Some, None, refl, sym, ap, ◌∙◌, subst, arith, inl, inr}
 use Rattle.std.proofs.lemmas.Bool.{cases_eq}
 use Rattle.std.proofs.lemmas.Bool.Decides.{nat_tests}
 use Rattle.std.proofs.lemmas.List.Elements.{All-from_recursion}
@@ -23,13 +23,14 @@ use Rattle.opacity.proofs.Runs.{safe_opaque}
 use Rattle.opacity.proofs.Truths.{committed_shows, rolled_shows}
 use Rattle.ledger_model.specs.declared.job.Contents.{Contents}
 use Rattle.ledger_model.specs.declared.job.Job.{Job}
+use Rattle.ledger_model.specs.declared.listing.Rolled.{Rolled}
 use Rattle.ledger_model.specs.declared.listing.Row.{Row}
 use Rattle.ledger_model.specs.declared.listing.RowResult.{RowResult}
 use Rattle.ledger_model.specs.declared.listing.RowResult.TheVariants.{Done, Fail, Spent}
 use Rattle.ledger_model.specs.declared.script.Script.{Script}
 use Rattle.ledger_model.specs.Contents.{opening_contents}
 use Rattle.ledger_model.specs.Fits.{ScriptFits, WorkerFits, places}
-use Rattle.ledger_model.specs.Replays.{NamesScript, scripts_of, settled_by}
+use Rattle.ledger_model.specs.Replays.{HasRetried, NamesScript, TellsResult, scripts_of, settled_by}
 use Rattle.ledger_model.specs.Report.{has_text}
 use Rattle.ledger_model.specs.Run.{Kept, Failed, Retried, Outcome, statement_count}
 use Rattle.ledger_model.specs.Settle.{Commits, Fails, OnlyReads, Spends, settle}
@@ -37,7 +38,7 @@ use Rattle.ledger_model.specs.Traced.{MayBeTraced, Trace, attempt_in, ended_with
 use Rattle.ledger_model.proofs.Asked.{script_is_its_run}
 use Rattle.trace_laws.proofs.Ended.{TellsCommit, TellsFailure, TellsRead, TellsRetry, TellsRollback, TellsRun, TellsSpent}
 use Rattle.trace_laws.proofs.Told.{with_refs}
-use Rattle.trace_laws.proofs.Tracked.{Flies, IsAccounted, Rests, ShowsResult, ShowsWriter, Tracked, TracksWorker, contents_at, run_at}
+use Rattle.trace_laws.proofs.Tracked.{Flies, IsAccounted, Rests, ShowsWriter, Tracked, TracksWorker, contents_at, run_at}
 use Rattle.trace_laws.proofs.EndedRuns.{tells_run}
 use Rattle.trace_laws.proofs.Midway.{IsAccountedBut}
 use Rattle.trace_laws.proofs.Settling.{line_settles, row_settles}
@@ -168,10 +169,10 @@ module _ {lawful : List ℕ → Type 0} {may : List ℕ → List ℕ → Type 0}
       abbrev row : Row
       row = record { position = prefix; writer = false; worker = p; number = number; result = result; prints = prints; runs = t.now.runs; drawn = 0 }
 
-      row_read : ShowsResult result row (run_at job h p number prefix) settings.clock → stamp_of t ≡ 0 → ((other : ℕ) → t.ending ≡ Some (RolledBack Retry other) → ⊥)
+      row_read : TellsResult result settings row (run_at job h p number prefix) → stamp_of t ≡ 0 → ((other : ℕ) → t.ending ≡ Some (RolledBack Retry other) → ⊥)
           → Tracked lawful may job settings (with_row p prefix false result prints s)
       row_read shows unstamped not_retried =
-          row_settles p s old.midway ended old.nothing_due row refl refl (record { named = named; to = read.low; drawn = refl; script = shows }) read.fresh read.seen not_retried
+          row_settles p s old.midway ended old.nothing_due row refl refl (record { named = named; to = read.low; drawn = refl; script = record { tells = shows; drawn = refl } }) read.fresh read.seen not_retried
           (λ n stamp. absurd (omega (arith, stamp, unstamped)))
 
     ended_read : (prefix : ℕ) → t.ending ≡ Some (Read prefix) → Tracked lawful may job settings (with_row p prefix false Done (s.progress p).prints s)
@@ -221,9 +222,12 @@ module _ {lawful : List ℕ → Type 0} {may : List ℕ → List ℕ → Type 0}
       shows_writer : ShowsWriter job settings h writer
       shows_writer = record {
         from = place.0;
-        done = refl;
         own = own;
-        shows = record { settled = commits (run_at job h p number (stamp - 1)) (stamp - 1) settings.clock run.end run.wrote limit; printed = sym run.prints; runs = run.runs };
+        tells = record {
+          done = refl;
+          tells = record { settled = commits (run_at job h p number (stamp - 1)) (stamp - 1) settings.clock run.end run.wrote limit; printed = sym run.prints; runs = run.runs };
+          drawn = omega arith;
+        };
         leaves = run.contents ∙ ap (with_refs base) leaves;
       }
 
@@ -270,11 +274,15 @@ module _ {lawful : List ℕ → Type 0} {may : List ℕ → List ℕ → Type 0}
           let ending : t.ending ≡ (attempt_of w 1).ending = ap (λ (q : ℕ). (attempt_of w q).ending) first in
           subst EndsByItself (sym ending ∙ is) alone.goes.undisturbed.ending
 
-      ended_rolled : Extends (s.progress p).trail o.after.trail → IsTrue (has_text cause) → (cause ≡ Retry → (o.end ≡ Retried) × ((s.progress p).trail ≡ o.after.trail))
+      abbrev line : Rolled
+      line = record { worker = p; number = number; prefix = prefix; cause = cause; trail = (s.progress p).trail }
+
+      ended_rolled : Extends (s.progress p).trail o.after.trail → IsTrue (has_text cause) → (cause ≡ Retry → HasRetried line o)
           → Tracked lawful may job settings (with_rolled p prefix cause s)
       ended_rolled trail text retry =
-          line_settles p s old.midway ended old.nothing_due (record { worker = p; number = number; prefix = prefix; cause = cause; trail = (s.progress p).trail }) refl refl
-          (record { named = named; to = read_then.low; trail = trail; cause = text; evidence = evidence; retry = retry; alone = λ one. only_retry cause text (own_cause one) })
+          let alone : length job.workers ≡ 1 → cause ≡ Retry = λ one. only_retry cause text (own_cause (traced.callers ∙ ap (λ (n : ℕ). max n 1) one)) in
+          line_settles p s old.midway ended old.nothing_due line refl refl
+          (record { named = named; to = read_then.low; tells = record { trail = trail; cause = text; evidence = evidence; retry = retry; alone = alone } })
           read_then.fresh read_then.seen (ap stamp_in is) (λ other retried. let same = sym is ∙ retried in (cc, cc))
 
     ended_failed : (code prefix : ℕ) → t.ending ≡ Some (RolledBack (User code) prefix) → Tracked lawful may job settings (with_row p prefix false (Fail code) [] s)
@@ -299,7 +307,7 @@ module _ {lawful : List ℕ → Type 0} {may : List ℕ → List ℕ → Type 0}
     unfolding TellsRollback
     ended_retried prefix is =
         let run : TellsRetry (s.progress p) (o Retry prefix is) = rollback Retry prefix is in
-        ended_rolled Retry prefix is (subst (λ (trail : List ℕ). Extends (s.progress p).trail trail) (sym run.trail) (Extends-refl (s.progress p).trail)) refl (λ same. (run.end, sym run.trail))
+        ended_rolled Retry prefix is (subst (λ (trail : List ℕ). Extends (s.progress p).trail trail) (sym run.trail) (Extends-refl (s.progress p).trail)) refl (λ same. record { retries = run.end; whole = sym run.trail })
 
     by_cause : (cause : Cause) (prefix : ℕ) → t.ending ≡ Some (RolledBack cause prefix) → Tracked lawful may job settings (rolled_with cause p prefix s)
     unfolding TellsRollback

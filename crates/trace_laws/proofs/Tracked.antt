@@ -4,10 +4,8 @@ use Rattle.std.specs.List.{AllByRecursion, range_with_len}
 use Rattle.opacity.specs.Alone.{IsAlone}
 use Rattle.opacity.specs.Known.{IsKnown}
 use Rattle.stm_model.specs.Attempt.{Announce, Ended, stamp_of}
-use Rattle.stm_model.specs.Evidence.{Evidence}
 use Rattle.stm_model.specs.History.{Entry, entry_after, state}
 use Rattle.stm_model.specs.Safe.{EndsWith, Safe, caller_at}
-use Rattle.stm_model.specs.Telling.{Extends}
 use Rattle.stm_model.specs.declared.cause.Cause.TheVariants.{Retry}
 use Rattle.stm_model.specs.declared.ending.Ending.TheVariants.{Rolled as RolledBack}
 use Rattle.stm_model.specs.declared.settings.Settings.{Settings}
@@ -15,13 +13,9 @@ use Rattle.ledger_model.specs.declared.job.Contents.{Contents}
 use Rattle.ledger_model.specs.declared.job.Job.{Job}
 use Rattle.ledger_model.specs.declared.listing.Rolled.{Rolled}
 use Rattle.ledger_model.specs.declared.listing.Row.{Row}
-use Rattle.ledger_model.specs.declared.listing.RowResult.{RowResult}
-use Rattle.ledger_model.specs.declared.listing.RowResult.TheVariants.{Done, Fail, Spent, Full}
 use Rattle.ledger_model.specs.Contents.{opening_contents}
-use Rattle.ledger_model.specs.Replays.{MayPrecede, NamesScript, block_of, rolled_of, rows_of, run_of, scripts_of, settled_by}
-use Rattle.ledger_model.specs.Report.{has_text}
-use Rattle.ledger_model.specs.Run.{Outcome, Retried}
-use Rattle.ledger_model.specs.Settle.{Settled, Commits, Fails, OnlyReads, Spends, handler_runs, settle}
+use Rattle.ledger_model.specs.Replays.{MayPrecede, NamesScript, TellsReader, TellsRolled, TellsWriter, block_of, rolled_of, rows_of, run_of, scripts_of, settled_by}
+use Rattle.ledger_model.specs.Run.{Outcome}
 use Rattle.ledger_model.specs.Traced.{Trace, attempt_in, is_flying, terms_of_job}
 use Rattle.trace_laws.proofs.Lists.{Ordered}
 use Rattle.trace_laws.proofs.Told.{IsTold, with_refs}
@@ -36,27 +30,13 @@ contents_at job h n = with_refs (opening_contents job) (state (opening_contents 
 abbrev pub run_at : Job → List Entry → ℕ → ℕ → ℕ → Outcome
 run_at job h worker number n = run_of job worker number (contents_at job h n)
 
--- ---- rows
-
--- It is settled so, with these prints, and the row has them and the runs of its handlers.
-pub record Shows (row : Row) (outcome : Outcome) (writers limit : ℕ) (how : Settled) (prints : List ℕ) : Type 0 where
-  pub settled : settle outcome writers limit ≡ how
-  pub printed : row.prints ≡ prints
-  pub runs : row.runs ≡ handler_runs how outcome.after
-
-abbrev pub ShowsResult : RowResult → Row → Outcome → ℕ → Type 0
-ShowsResult Done row outcome limit = Shows row outcome row.position limit OnlyReads outcome.after.prints
-ShowsResult (Fail code) row outcome limit = Shows row outcome row.position limit (Fails code) []
-ShowsResult Spent row outcome limit = Shows row outcome row.position limit Spends []
-ShowsResult (Full used allowance) row outcome limit = ⊥
+-- ---- rows and rolled lines
 
 -- A writer's entry stands at its position, and leaves what its script leaves.
 pub record ShowsWriter (job : Job) (settings : Settings) (h : List Entry) (row : Row) : Type 0 where
   pub from : 0 < row.position
-  pub done : row.result ≡ Done
   pub own : (entry_after h (row.position - 1)).caller ≡ row.worker
-  pub shows : let outcome = run_at job h row.worker row.number (row.position - 1) in
-      Shows row outcome (row.position - 1) settings.clock Commits outcome.after.prints
+  pub tells : TellsWriter settings row (run_at job h row.worker row.number (row.position - 1))
   pub leaves : (run_at job h row.worker row.number (row.position - 1)).after.contents ≡ contents_at job h row.position
 
 -- what a row shows of its script, on what the history left at its position
@@ -64,20 +44,13 @@ pub record ShowsRow (job : Job) (settings : Settings) (h : List Entry) (row : Ro
   pub named : NamesScript job row.worker row.number
   pub to : row.position ≤ length h
   pub drawn : row.drawn ≡ 0
-  pub script : MatchBool row.writer (ShowsWriter job settings h row)
-      (ShowsResult row.result row (run_at job h row.worker row.number row.position) settings.clock)
+  pub script : MatchBool row.writer (ShowsWriter job settings h row) (TellsReader settings row (run_at job h row.worker row.number row.position))
 
--- ---- rolled lines
-
+-- what a rolled line shows of its script, on what the history left at its prefix
 pub record ShowsRolled (job : Job) (settings : Settings) (h : List Entry) (rolled : Rolled) : Type 0 where
   pub named : NamesScript job rolled.worker rolled.number
   pub to : rolled.prefix ≤ length h
-  pub trail : Extends rolled.trail (run_at job h rolled.worker rolled.number rolled.prefix).after.trail
-  pub cause : IsTrue (has_text rolled.cause)
-  pub evidence : Evidence rolled.worker settings rolled.cause
-  pub retry : rolled.cause ≡ Retry → ((run_at job h rolled.worker rolled.number rolled.prefix).end ≡ Retried)
-      × (rolled.trail ≡ (run_at job h rolled.worker rolled.number rolled.prefix).after.trail)
-  pub alone : settings.callers ≡ 1 → rolled.cause ≡ Retry
+  pub tells : TellsRolled job settings rolled (run_at job h rolled.worker rolled.number rolled.prefix)
 
 -- ---- workers
 
