@@ -24,7 +24,8 @@ use Rattle.ledger_model.specs.Reported.{HaveAsMany, HaveTexts, IsReportedWhole, 
 use Rattle.ledger_model.proofs.Listed.{listed_sized}
 use Rattle.host_report.specs.OneText.{OneTextOneListing, TextFixesListing}
 use Rattle.host_report.specs.WithinTypes.{IsNameWithinTypes, IsRolledWithinTypes, IsRowWithinTypes, IsWithinTypes, IsWord}
-use Rattle.host_report.proofs.WordLemmas.{all_both, all_pass, all_weaker, name_is_word, name_same}
+use Rattle.ledger_model.proofs.Lists.{each_weaker}
+use Rattle.host_report.proofs.WordLemmas.{all_both, all_pass, name_is_word, name_same}
 use Rattle.host_report.proofs.RowLemmas.{IsRowShown, row_line_of_words, row_same}
 use Rattle.host_report.proofs.RolledLemmas.{IsRolledShown, rolled_line_of_words, rolled_same}
 use Rattle.host_report.proofs.ContentsLemmas.{by_contents, contents_of_words, maps_same, refs_same}
@@ -177,8 +178,8 @@ result_prints (Full used allowance) settings row outcome h = absurd h
 rows_print : (job : Job) (settings : Settings) (a : Listing) → Replays job settings a → AllByRecursion (λ row. PrintsIfDone row.result row.prints) a.rows
 rows_print job settings a h =
     all_rows (λ row. PrintsIfDone row.result row.prints) a.rows
-    (all_weaker (λ row. TellsWriter settings row (run_after job a.rows (row.position - 1) row.worker row.number)) (λ row. PrintsIfDone row.result row.prints) (λ row t. done_prints row.result row.prints t.done) (writers_of a.rows) h.writers)
-    (all_weaker (λ row. TellsReader settings row (run_after job a.rows row.position row.worker row.number)) (λ row. PrintsIfDone row.result row.prints)
+    (each_weaker (λ row. TellsWriter settings row (run_after job a.rows (row.position - 1) row.worker row.number)) (λ row. PrintsIfDone row.result row.prints) (λ row t. done_prints row.result row.prints t.done) (writers_of a.rows) h.writers)
+    (each_weaker (λ row. TellsReader settings row (run_after job a.rows row.position row.worker row.number)) (λ row. PrintsIfDone row.result row.prints)
     (λ row t. result_prints row.result settings row (run_after job a.rows row.position row.worker row.number) t.tells) (others_of a.rows) h.others)
 
 shows_doom : (own : ℕ) (settings : Settings) (cause : Cause) → Evidence own settings cause → ShowsDoom cause
@@ -188,13 +189,13 @@ shows_doom own settings _ h = tt
 
 -- each rolled attempt of a listing that replays a job has a cause that a report can name
 pub replay_texts : (job : Job) (settings : Settings) (a : Listing) → Replays job settings a → HaveTexts a
-replay_texts job settings a h = all_weaker (λ rolled. TellsRolled job settings rolled (run_after job a.rows rolled.prefix rolled.worker rolled.number)) (λ rolled. IsTrue (has_text rolled.cause)) (λ rolled t. t.cause) a.rolled h.rolled
+replay_texts job settings a h = each_weaker (λ rolled. TellsRolled job settings rolled (run_after job a.rows rolled.prefix rolled.worker rolled.number)) (λ rolled. IsTrue (has_text rolled.cause)) (λ rolled t. t.cause) a.rolled h.rolled
 
 replay_shown : (job : Job) (settings : Settings) (a : Listing) → Replays job settings a → IsReportedWhole a
 replay_shown job settings a h = record {
   texts = replay_texts job settings a h;
   prints = rows_print job settings a h;
-  dooms = all_weaker (λ rolled. TellsRolled job settings rolled (run_after job a.rows rolled.prefix rolled.worker rolled.number)) (λ rolled. ShowsDoom rolled.cause)
+  dooms = each_weaker (λ rolled. TellsRolled job settings rolled (run_after job a.rows rolled.prefix rolled.worker rolled.number)) (λ rolled. ShowsDoom rolled.cause)
       (λ rolled t. shows_doom rolled.worker settings rolled.cause t.evidence) a.rolled h.rolled;
 }
 

@@ -1,8 +1,9 @@
 -- The first worker that passes a test, along the workers one after another. Here a is the next of them and n the last.
-use Rattle.std.proofs.Common.{◌≡◌, inl, inr, ℕ, zero, suc, ◌+◌, ◌-◌, ◌<◌, ◌≤◌, Bool, true, false, if◌then◌else◌, List, [], ◌∷◌, Option, Some, None, refl, ap, sym, ◌∙◌, arith}
+use Rattle.std.proofs.Common.{◌≡◌, ℕ, suc, ◌+◌, ◌-◌, ◌<◌, ◌≤◌, Bool, true, false, if◌then◌else◌, List, [], ◌∷◌, Option, Some, None, get_or, ap, sym, subst, ◌∙◌, arith}
 use Rattle.std.specs.List.{find, range_with_len}
-use Rattle.std.specs.Option.{option_or}
-use Rattle.std.proofs.lemmas.Bool.{cases_eq}
+use Rattle.std.proofs.lemmas.List.Elements.{All-from_recursion}
+use Rattle.std.proofs.lemmas.List.FromFn.{get_or-range_with_len, length-range_with_len}
+use Rattle.ledger_model.proofs.Lists.{none_where}
 
 -- those from a on
 abbrev pub from_on : ℕ → ℕ → List ℕ
@@ -32,14 +33,8 @@ module _ (test : ℕ → Bool) (a n : ℕ) where
 
 -- Where none of them passes, this one doesn't.
 pub fails_at : (test : ℕ → Bool) (a n p : ℕ) → find test (range_with_len a n) ≡ None → a ≤ p → p < a + n → test p ≡ false
-fails_at test a zero p none from less = absurd (omega arith)
-fails_at test a (suc n) p none from less =
-    go (test a) refl none (λ none from less. fails_at test (a + 1) n p none from less) where
-      go : (b : Bool) → test a ≡ b → (if b then Some a else find test (range_with_len (a + 1) n)) ≡ None
-          → (find test (range_with_len (a + 1) n) ≡ None → a + 1 ≤ p → p < a + 1 + n → test p ≡ false) → test p ≡ false
-      go true is none later = cc
-      go false is none later = elim (cases_eq a p) [ inl same ↦ ap test (sym same) ∙ is | inr other ↦ later none (omega arith) (omega arith) ]
-
-pub first_is_none : (first second : Option ℕ) → option_or first second ≡ None → first ≡ None
-first_is_none None second none = refl
-first_is_none (Some p) second none = cc
+fails_at test a n p none from less =
+    let inside : p - a < n = omega (arith, from, less) in
+    let there : get_or (range_with_len a n) (p - a) 0 ≡ p = get_or-range_with_len a n (p - a) 0 inside ∙ omega (arith, from) in
+    subst (λ (q : ℕ). test q ≡ false) there
+    (All-from_recursion (λ q. test q ≡ false) (range_with_len a n) (none_where test (range_with_len a n) none) (p - a) 0 (rw (length-range_with_len a n) inside))

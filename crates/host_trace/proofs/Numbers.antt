@@ -1,10 +1,8 @@
 -- What the end of a worker's attempt leaves of the rows and the rolled lines of others, and the numbers of its rows. Here p is the worker, s and u are traces, before and after.
 use Rattle.std.proofs.Common.{◌≡◌, ◌≢◌, inl, inr, ℕ, zero, suc, ◌+◌, add-zero, Bool, true, false, nat_eq, cond, if◌then◌else◌, List, [], ◌∷◌, ◌++◌, length, map, Option, Some, None, refl, ap, sym, subst, ◌∙◌, arith}
 use Rattle.std.specs.List.{filter, range_with_len}
-use Rattle.std.proofs.lemmas.Bool.{cases_eq}
-use Rattle.std.proofs.lemmas.Bool.Decides.{nat_tests}
-use Rattle.std.proofs.lemmas.List.{append-nil, length_push, map-append}
-use Rattle.std.proofs.lemmas.List.Elements.{filter-append}
+use Rattle.std.proofs.lemmas.Bool.{cases_eq, eq-eqb, ne_eqb}
+use Rattle.std.proofs.lemmas.List.{length_push, map-append}
 use Rattle.stm_model.specs.declared.cause.Cause.{Cause}
 use Rattle.stm_model.specs.declared.cause.Cause.TheVariants.{ClockEnd, User}
 use Rattle.stm_model.specs.declared.ending.Ending.{Ending}
@@ -15,6 +13,7 @@ use Rattle.ledger_model.specs.declared.listing.RowResult.{RowResult}
 use Rattle.ledger_model.specs.declared.listing.RowResult.TheVariants.{Done, Fail, Spent}
 use Rattle.ledger_model.specs.Replays.{rolled_of, rows_of, settled_by}
 use Rattle.ledger_model.specs.Traced.{Progress, Trace, access, attempt_in, begins, ended_with, ends, is_flying, rolled_with, with_rolled, with_row}
+use Rattle.ledger_model.proofs.Lists.{filter_keeps, filter_leaves, range_push}
 use Rattle.host_trace.specs.Flights.{flown}
 use Rattle.host_trace.specs.Tracings.{AreNumbered}
 use Rattle.host_trace.proofs.Others.{Stays, flown_stays}
@@ -49,26 +48,7 @@ module _ {p : ℕ} where
   spares_none : (s : Trace) → Spares p s s
   spares_none s = record { rows = λ q other. refl; rolled = λ q other. refl; attempts = λ q other. refl; progress = λ q other. refl; numbered = λ numbered. numbered }
 
--- ---- one more at the end
-
-module _ {X : Type 0} (test : X → Bool) (xs : List X) (x : X) where
-  passing_more : test x ≡ true → filter test (xs ++ x ∷ []) ≡ filter test xs ++ x ∷ []
-  passing_more passes = filter-append test xs (x ∷ []) ∙ ap (λ (b : Bool). filter test xs ++ cond b (x ∷ []) []) passes
-
-  failing_more : test x ≡ false → filter test (xs ++ x ∷ []) ≡ filter test xs
-  failing_more fails = filter-append test xs (x ∷ []) ∙ ap (λ (b : Bool). filter test xs ++ cond b (x ∷ []) []) fails ∙ append-nil (filter test xs)
-
-own_test : (p : ℕ) → nat_eq p p ≡ true
-own_test p = grind (arith, nat_tests)
-
-other_test : (p q : ℕ) → q ≢ p → nat_eq p q ≡ false
-other_test p q other = grind (arith, nat_tests)
-
-range_more : (a n : ℕ) → range_with_len a n ++ (a + n) ∷ [] ≡ range_with_len a (suc n)
-range_more a zero = ap (λ (k : ℕ). k ∷ []) (add-zero a)
-range_more a (suc n) =
-    let same : a + suc n ≡ a + 1 + n = omega arith in
-    ap (λ (ks : List ℕ). a ∷ ks) (ap (λ (k : ℕ). range_with_len (a + 1) n ++ k ∷ []) same ∙ range_more (a + 1) n)
+-- ---- numbers
 
 numbered_own : (rows : List Row) (row : Row) → row.number ≡ suc (settled_by rows row.worker)
     → map (λ row. row.number) (rows_of row.worker rows) ≡ range_with_len 1 (settled_by rows row.worker)
@@ -76,18 +56,18 @@ numbered_own : (rows : List Row) (row : Row) → row.number ≡ suc (settled_by 
 numbered_own rows row next numbered =
     let p = row.worker in
     let n = settled_by rows p in
-    let more = passing_more (λ row. nat_eq row.worker p) rows row (own_test p) in
+    let more = filter_keeps (λ row. nat_eq row.worker p) rows row (eq-eqb p p refl) in
     let numbers : map (λ row. row.number) (rows_of p (rows ++ row ∷ [])) ≡ range_with_len 1 n ++ (1 + n) ∷ [] =
     ap (map (λ (row : Row). row.number)) more ∙ map-append (λ (row : Row). row.number) (rows_of p rows) (row ∷ [])
     ∙ ap (λ (ns : List ℕ). ns ++ row.number ∷ []) numbered ∙ ap (λ (k : ℕ). range_with_len 1 n ++ k ∷ []) (omega (arith, next)) in
     let counted : settled_by (rows ++ row ∷ []) p ≡ suc n = ap (length {A = Row}) more ∙ omega (arith, length_push (rows_of p rows) row) in
-    numbers ∙ range_more 1 n ∙ ap (λ (k : ℕ). range_with_len 1 k) (sym counted)
+    numbers ∙ range_push 1 n ∙ ap (λ (k : ℕ). range_with_len 1 k) (sym counted)
 
 -- A row whose number is the next one of its worker keeps the numbers.
 numbered_more : (rows : List Row) (row : Row) → row.number ≡ suc (settled_by rows row.worker) → AreNumbered rows → AreNumbered (rows ++ row ∷ [])
 numbered_more rows row next numbered q = elim (cases_eq q row.worker) [
   | inl is ↦ subst (λ (q : ℕ). map (λ row. row.number) (rows_of q (rows ++ row ∷ [])) ≡ range_with_len 1 (settled_by (rows ++ row ∷ []) q)) (sym is) (numbered_own rows row next (numbered row.worker))
-  | inr other ↦ rw (failing_more (λ row. nat_eq row.worker q) rows row (other_test row.worker q other)) (numbered q)
+  | inr other ↦ rw (filter_leaves (λ row. nat_eq row.worker q) rows row (ne_eqb row.worker q (λ same. other (sym same)))) (numbered q)
 ]
 
 -- ---- the end
@@ -95,7 +75,7 @@ numbered_more rows row next numbered q = elim (cases_eq q row.worker) [
 module _ (p : ℕ) where
   with_row_spares : (position : ℕ) (writer : Bool) (result : RowResult) (prints : List ℕ) (s : Trace) → Spares p s (with_row p position writer result prints s)
   with_row_spares position writer result prints s = record {
-    rows = λ q other. failing_more (λ row. nat_eq row.worker q) s.rows _ (other_test p q other);
+    rows = λ q other. filter_leaves (λ row. nat_eq row.worker q) s.rows _ (ne_eqb p q (λ same. other (sym same)));
     rolled = λ q other. refl;
     attempts = λ q other. refl;
     progress = λ q other. refl;
@@ -105,7 +85,7 @@ module _ (p : ℕ) where
   with_rolled_spares : (prefix : ℕ) (cause : Cause) (s : Trace) → Spares p s (with_rolled p prefix cause s)
   with_rolled_spares prefix cause s = record {
     rows = λ q other. refl;
-    rolled = λ q other. failing_more (λ line. nat_eq line.worker q) s.rolled _ (other_test p q other);
+    rolled = λ q other. filter_leaves (λ line. nat_eq line.worker q) s.rolled _ (ne_eqb p q (λ same. other (sym same)));
     attempts = λ q other. refl;
     progress = λ q other. refl;
     numbered = λ numbered. numbered;

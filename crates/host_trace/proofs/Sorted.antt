@@ -11,6 +11,7 @@ use Rattle.std.proofs.lemmas.List.Sorted.{sum_by-IsPermutation}
 use Rattle.ledger_model.specs.declared.listing.Row.{Row}
 use Rattle.ledger_model.specs.Order.{kind_rank, less_or_tied, stands_before}
 use Rattle.ledger_model.specs.Replays.{InOrder, rows_of, settled_by}
+use Rattle.ledger_model.proofs.Lists.{each_weaker}
 use Rattle.host_trace.specs.Tracings.{AreNumbered}
 
 -- ---- rows of one name
@@ -156,16 +157,12 @@ first_before a b rows sorted apart = elim (before_either a b (sorted 0 a (omega 
       )
 ]
 
-all_weaker : (P Q : Row → Type 0) → ((row : Row) → P row → Q row) → (rows : List Row) → AllByRecursion P rows → AllByRecursion Q rows
-all_weaker P Q f [] all = tt
-all_weaker P Q f (row ∷ rows) all = (f row all.0, all_weaker P Q f rows all.1)
-
 -- The first stands before all others.
 first_of_all : (a : Row) (rows : List Row) → IsSortedBy stands_before (a ∷ rows) → AreApart (a ∷ rows) → AllByRecursion (Before a) rows
 first_of_all a [] sorted apart = tt
 first_of_all a (b ∷ rows) sorted apart =
     let before = first_before a b rows sorted apart in
-    (before, all_weaker (Before b) (Before a) (λ row behind. before_along a b row before behind) rows (first_of_all b rows (sorted_rest a (b ∷ rows) sorted) (apart_rest a (b ∷ rows) apart)))
+    (before, each_weaker (Before b) (Before a) (λ row behind. before_along a b row before behind) rows (first_of_all b rows (sorted_rest a (b ∷ rows) sorted) (apart_rest a (b ∷ rows) apart)))
 
 pub sorted_in_order : (rows : List Row) → IsSortedBy stands_before rows → AreApart rows → InOrder rows
 sorted_in_order [] sorted apart = λ i j d less within. absurd (omega (arith, within))

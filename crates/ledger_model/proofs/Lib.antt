@@ -7,6 +7,7 @@ pub mod Growing
 pub mod Hearing
 pub mod Lates
 pub mod Listed
+pub mod Lists
 pub mod MapLemmas
 pub mod Meaning
 pub mod Moments

@@ -15,7 +15,8 @@ use Rattle.script_text.specs.JobText.{Remainder, nothing, begin_with, enclose, b
 use Rattle.script_text.specs.Printing.{register_word, opening_line, steps_line, end_line, statement_lines, block_lines, script_lines, worker_lines}
 use Rattle.script_text.proofs.SpelledLines.{line_rows, only, NamesWorker}
 use Rattle.script_text.proofs.PlacedLines.{Stands, IsSound, Placed, ends_among, part_among}
-use Rattle.script_text.proofs.Follows.{Block, further_lines, rest_lines, blocks_lines, later_lines, rows_of, PartsFit, BlocksFit, Follows, bare, unopened, no_blocks, no_openers, lower, all_weaker, begin_fits, begin_lines, inner_lines, late_lines, either_lines, inner_fits, late_fits, either_fits}
+use Rattle.ledger_model.proofs.Lists.{each_weaker}
+use Rattle.script_text.proofs.Follows.{Block, further_lines, rest_lines, blocks_lines, later_lines, rows_of, PartsFit, BlocksFit, Follows, bare, unopened, no_blocks, no_openers, lower, begin_fits, begin_lines, inner_lines, late_lines, either_lines, inner_fits, late_fits, either_fits}
 
 -- ---- openings, workers and steps
 
@@ -121,7 +122,7 @@ steps_follow p numbers rest rows h f =
       no_workers = λ _. ws;
       steps = omega (arith, f.steps, l);
       named = AllByRecursion-append (NamesWorker (p.workers + length rest.workers)) numbers rest.steps
-          (all_weaker (NamesWorker p.workers) (NamesWorker (p.workers + length rest.workers)) (λ w k. (k.0, omega (arith, k.1))) numbers h.2) f.named;
+          (each_weaker (NamesWorker p.workers) (NamesWorker (p.workers + length rest.workers)) (λ w k. (k.0, omega (arith, k.1))) numbers h.2) f.named;
       groups = numbers ∷ f.groups;
       sizes = (h.3, f.sizes);
       joined = ap (λ (ns : List ℕ). numbers ++ ns) f.joined;

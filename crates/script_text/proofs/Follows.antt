@@ -96,10 +96,6 @@ pub lower : (refs low next : ℕ) (openings : List (ℕ × ℕ)) → low ≤ nex
 lower refs low next [] l h = tt
 lower refs low next (o ∷ openings) l h = (omega (arith, l, h.0), h.1, h.2, h.3)
 
-pub all_weaker : {X : Type 0} (P Q : X → Type 0) → ((x : X) → P x → Q x) → (xs : List X) → AllByRecursion P xs → AllByRecursion Q xs
-all_weaker P Q f [] h = tt
-all_weaker P Q f (x ∷ xs) h = (f x h.0, all_weaker P Q f xs h.1)
-
 -- ---- a statement in front of the innermost block
 
 pub begin_fits : (p : Places) (openers : List Opener) (blocks : List Block) (m : Statement) → 0 < length openers → fits p m (33 - length openers) ≡ true

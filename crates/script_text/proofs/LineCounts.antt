@@ -20,7 +20,7 @@ use Rattle.ledger_model.proofs.Carried.{size}
 use Rattle.script_text.specs.JobText.{is_skipped, job_of}
 use Rattle.script_text.specs.Printing.{block_lines, end_line, header_lines, job_lines, joined, opening_line, parts_lines, register_word, script_lines, statement_lines, statement_step, steps_line, worker_lines}
 use Rattle.script_text.specs.Form.{IsTextOf, says_zero, spelled}
-use Rattle.script_text.proofs.Follows.{all_weaker}
+use Rattle.ledger_model.proofs.Lists.{each_weaker}
 use Rattle.script_text.proofs.WholeForm.{text_of_job}
 
 -- ---- a statement has as many lines as it has statements, or more
@@ -161,7 +161,7 @@ may_be_traced text job settings is few callers =
       fits = whole.fits;
       maps = whole.built.maps;
       snaps = whole.built.snaps;
-      statements = all_weaker (AllByRecursion (HasAtMost (length text))) (AllByRecursion (HasAtMost (2 ^ 32)))
-          (all_weaker (HasAtMost (length text)) (HasAtMost (2 ^ 32)) (λ script h. omega (arith, h, few))) job.workers (few_statements text job whole);
+      statements = each_weaker (AllByRecursion (HasAtMost (length text))) (AllByRecursion (HasAtMost (2 ^ 32)))
+          (each_weaker (HasAtMost (length text)) (HasAtMost (2 ^ 32)) (λ script h. omega (arith, h, few))) job.workers (few_statements text job whole);
       callers = callers;
     }

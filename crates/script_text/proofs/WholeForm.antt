@@ -17,7 +17,8 @@ use Rattle.script_text.proofs.SpelledWords.{bind_ok, ok_same}
 use Rattle.script_text.proofs.SpelledLines.{line_rows, only, NamesWorker}
 use Rattle.script_text.proofs.PlacedLines.{Stands, IsSound, Placed}
 use Rattle.script_text.proofs.PlacedRows.{headed, rows_begun}
-use Rattle.script_text.proofs.Follows.{blocks_lines, later_lines, Follows, no_blocks, all_weaker}
+use Rattle.ledger_model.proofs.Lists.{each_weaker}
+use Rattle.script_text.proofs.Follows.{blocks_lines, later_lines, Follows, no_blocks}
 use Rattle.script_text.proofs.FollowingLines.{nothing_follows, line_follows, lines_follow}
 
 -- ---- the job
@@ -54,7 +55,7 @@ whole come_to n rest rows r l f = record {
     workers = omega (arith, f.few_workers);
     scripts = f.workers;
     steps = omega (arith, f.steps);
-    named = all_weaker (NamesWorker (0 + length rest.workers)) (NamesWorker (length rest.workers)) (λ w k. (k.0, omega (arith, k.1))) rest.steps f.named;
+    named = each_weaker (NamesWorker (0 + length rest.workers)) (NamesWorker (length rest.workers)) (λ w k. (k.0, omega (arith, k.1))) rest.steps f.named;
   };
   groups = f.groups;
   sizes = f.sizes;

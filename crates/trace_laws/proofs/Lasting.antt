@@ -14,9 +14,9 @@ use Rattle.ledger_model.specs.declared.listing.Row.{Row}
 use Rattle.ledger_model.specs.Contents.{opening_contents}
 use Rattle.ledger_model.specs.Replays.{TellsReader, TellsRolled, TellsWriter, rolled_of, rows_of, run_of, settled_by}
 use Rattle.ledger_model.specs.Traced.{Trace, attempt_in, is_flying}
+use Rattle.ledger_model.proofs.Lists.{each_weaker}
 use Rattle.trace_laws.proofs.Told.{with_refs}
 use Rattle.trace_laws.proofs.Tracked.{Flies, ListsWorker, Rests, ShowsRolled, ShowsRow, ShowsWriter, TracksWorker, contents_at, over_of}
-use Rattle.trace_laws.proofs.Lists.{each_weaker}
 
 -- ---- rows and rolled lines
 

@@ -1,34 +1,15 @@
--- The scripts that are left, and whose turn it is not.
+-- The names of the scripts that are left.
 use Rattle.std.proofs.Common.{◌≡◌, ◌≢◌, ℕ, suc, ◌<◌, Bool, true, false, ◌&&◌, cond, if◌then◌else◌, nat_eq, List, [], ◌∷◌, length, Option, Some, None, refl, ap, ◌∙◌, arith}
-use Rattle.std.specs.List.{AllByRecursion, filter, find}
-use Rattle.std.specs.Option.{option_or}
+use Rattle.std.specs.List.{AllByRecursion, filter}
 use Rattle.std.proofs.lemmas.Bool.{and_parts}
 use Rattle.std.proofs.lemmas.Bool.Decides.{nat_tests}
 use Rattle.stm_model.specs.Pairs.{KeysAscend}
 use Rattle.ledger_model.specs.declared.job.Job.{Job}
 use Rattle.ledger_model.specs.Replays.{names_of, settled_by}
 use Rattle.ledger_model.specs.Traced.{Trace, has_left, left_where, workers_of}
-use Rattle.trace_laws.proofs.Lists.{Ordered, Ordered-filter, Ordered-map, each_map, each_passing, each_weaker, filter_all, filter_none}
+use Rattle.ledger_model.proofs.Lists.{each_weaker}
+use Rattle.trace_laws.proofs.Lists.{Ordered, Ordered-filter, Ordered-map, each_map, each_passing, filter_all, filter_none}
 use Rattle.trace_laws.proofs.Numbers.{IsBetween, Has-range, each_in_range, map_filter, one_part, range_ascends}
-
--- ---- nobody's turn
-
-some_is_none : (p : ℕ) → Some p ≡ None → ⊥
-some_is_none p e = cc
-
-pub none_where : (test : ℕ → Bool) (ps : List ℕ) → find test ps ≡ None → AllByRecursion (λ p. test p ≡ false) ps
-none_where test [] none = tt
-none_where test (p ∷ ps) none = go (test p) refl none (λ rest. none_where test ps rest) where
-  go : (b : Bool) → test p ≡ b → (if b then Some p else find test ps) ≡ None
-      → (find test ps ≡ None → AllByRecursion (λ q. test q ≡ false) ps) → (test p ≡ false) × AllByRecursion (λ q. test q ≡ false) ps
-  go true is none rest = absurd (some_is_none p none)
-  go false is none rest = (is, rest none)
-
-pub neither : (first second : Option ℕ) → option_or first second ≡ None → (first ≡ None) × (second ≡ None)
-neither None second none = (refl, none)
-neither (Some p) second none = absurd (some_is_none p none)
-
--- ---- names
 
 keys_ascend : (pairs : List (ℕ × ℕ)) → Ordered (λ a b. a.0 < b.0) pairs → KeysAscend pairs
 keys_ascend [] order = tt

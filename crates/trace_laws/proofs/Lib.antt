@@ -25,7 +25,6 @@ pub mod Concluding
 pub mod Taking
 pub mod Answering
 pub mod EndedRuns
-pub mod Pushes
 pub mod Keeping
 pub mod Stamping
 pub mod Happening

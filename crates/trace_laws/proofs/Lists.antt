@@ -6,6 +6,7 @@ use Rattle.std.proofs.lemmas.Bool.{both_ways}
 use Rattle.std.proofs.lemmas.List.Elements.{All-from_recursion, recursion_from_All}
 use Rattle.std.proofs.lemmas.List.Kept.{AllPairs-cons}
 use Rattle.std.proofs.lemmas.List.Sorted.{All-permutation, IsPermutation-sym}
+use Rattle.ledger_model.proofs.Lists.{each_weaker}
 
 -- ---- elements
 
@@ -25,10 +26,6 @@ pub each_from : {X : Type 0} (P : X → Type 0) (xs : List X) → ((x : X) → H
 each_from P [] f = tt
 each_from P (x ∷ xs) f = (f x (inl refl), each_from P xs (λ y has. f y (inr has)))
 
-pub each_weaker : {X : Type 0} (P Q : X → Type 0) → ((x : X) → P x → Q x) → (xs : List X) → AllByRecursion P xs → AllByRecursion Q xs
-each_weaker P Q f [] each = tt
-each_weaker P Q f (x ∷ xs) each = (f x each.0, each_weaker P Q f xs each.1)
-
 pub each_both : {X : Type 0} (P Q R : X → Type 0) → ((x : X) → P x → Q x → R x) → (xs : List X) → AllByRecursion P xs → AllByRecursion Q xs → AllByRecursion R xs
 each_both P Q R f [] ps qs = tt
 each_both P Q R f (x ∷ xs) ps qs = (f x ps.0 qs.0, each_both P Q R f xs ps.1 qs.1)
@@ -37,9 +34,16 @@ pub each_append : {X : Type 0} (P : X → Type 0) (xs ys : List X) → AllByRecu
 each_append P [] ys each more = more
 each_append P (x ∷ xs) ys each more = (each.0, each_append P xs ys each.1 more)
 
+pub each_push : {X : Type 0} (P : X → Type 0) (xs : List X) (x : X) → AllByRecursion P xs → P x → AllByRecursion P (xs ++ x ∷ [])
+each_push P xs x each last = each_append P xs (x ∷ []) each (last, tt)
+
 pub each_map : {X Y : Type 0} (P : Y → Type 0) (f : X → Y) (xs : List X) → AllByRecursion (λ x. P (f x)) xs → AllByRecursion P (map f xs)
 each_map P f [] each = tt
 each_map P f (x ∷ xs) each = (each.0, each_map P f xs each.1)
+
+pub each_mapped : {X Y : Type 0} (P : Y → Type 0) (f : X → Y) (xs : List X) → AllByRecursion P (map f xs) → AllByRecursion (λ x. P (f x)) xs
+each_mapped P f [] each = tt
+each_mapped P f (x ∷ xs) each = (each.0, each_mapped P f xs each.1)
 
 pub each_flat_map : {X Y : Type 0} (P : Y → Type 0) (f : X → List Y) (xs : List X) → AllByRecursion (λ x. AllByRecursion P (f x)) xs → AllByRecursion P (flat_map f xs)
 each_flat_map P f [] each = tt
@@ -137,6 +141,10 @@ pub Ordered-append : {X : Type 0} (R : X → X → Type 0) (xs ys : List X) → 
 Ordered-append R [] ys first second across = second
 Ordered-append R (x ∷ xs) ys first second across =
     (each_append (R x) xs ys first.0 across.0, Ordered-append R xs ys first.1 second across.1)
+
+pub Ordered-push : {X : Type 0} (R : X → X → Type 0) (xs : List X) (x : X) → Ordered R xs → AllByRecursion (λ earlier. R earlier x) xs → Ordered R (xs ++ x ∷ [])
+Ordered-push R [] x order each = (tt, tt)
+Ordered-push R (first ∷ xs) x order each = (each_push (R first) xs x order.0 each.0, Ordered-push R xs x order.1 each.1)
 
 pub Ordered-map : {X Y : Type 0} (R : Y → Y → Type 0) (f : X → Y) (xs : List X) → Ordered (λ x y. R (f x) (f y)) xs → Ordered R (map f xs)
 Ordered-map R f [] order = tt

@@ -19,11 +19,12 @@ use Rattle.ledger_model.specs.declared.listing.Rolled.{Rolled}
 use Rattle.ledger_model.specs.declared.listing.Row.{Row}
 use Rattle.ledger_model.specs.Replays.{MayPrecede, rolled_of, rows_of, scripts_of}
 use Rattle.ledger_model.specs.Traced.{Progress, Trace, attempt_in, happens, is_flying, terms_of_job, with_progress}
+use Rattle.ledger_model.proofs.Lists.{each_weaker}
 use Rattle.trace_laws.proofs.Tracked.{ComesEarlier, HasWriter, ShowsRolled, ShowsRow, StandsBetween, TracksWorker}
 use Rattle.trace_laws.proofs.Happening.{Affects, SinceStays}
 use Rattle.trace_laws.proofs.Keeping.{IsNumbered}
 use Rattle.trace_laws.proofs.Lasting.{lines_last, rows_last, worker_lasts}
-use Rattle.trace_laws.proofs.Lists.{Ordered, each_weaker}
+use Rattle.trace_laws.proofs.Lists.{Ordered}
 use Rattle.trace_laws.proofs.Stamping.{own_entry, own_stamp}
 
 -- ---- its own listing

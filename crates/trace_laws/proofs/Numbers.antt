@@ -3,7 +3,8 @@ use Rattle.std.proofs.Common.{◌≡◌, ◌≢◌, inl, inr, ℕ, zero, suc, �
 use Rattle.std.specs.List.{AllByRecursion, filter, flat_map, range_with_len}
 use Rattle.std.proofs.lemmas.Bool.{cases_eq}
 use Rattle.std.proofs.lemmas.List.Elements.{filter-append}
-use Rattle.trace_laws.proofs.Lists.{Has, Ordered, each_has, each_weaker, ordered_same}
+use Rattle.ledger_model.proofs.Lists.{each_weaker}
+use Rattle.trace_laws.proofs.Lists.{Has, Ordered, each_has, ordered_same}
 
 abbrev pub Ascends : List ℕ → Type 0
 Ascends ns = Ordered (λ i j. i < j) ns

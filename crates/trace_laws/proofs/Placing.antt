@@ -5,11 +5,11 @@ use Rattle.std.specs.List.{AllByRecursion, range_with_len}
 use Rattle.ledger_model.specs.declared.listing.Rolled.{Rolled}
 use Rattle.ledger_model.specs.declared.listing.Row.{Row}
 use Rattle.ledger_model.specs.Replays.{MayPrecede}
+use Rattle.ledger_model.proofs.Lists.{each_weaker, range_push}
 use Rattle.trace_laws.proofs.Tracked.{ComesEarlier, StandsBetween}
-use Rattle.trace_laws.proofs.Lists.{each_both, each_weaker}
+use Rattle.trace_laws.proofs.Lists.{Ordered-push, each_both, each_mapped, each_push}
 use Rattle.trace_laws.proofs.Midway.{AreFrom, AreOrdered}
 use Rattle.trace_laws.proofs.Numbers.{IsBetween, each_in_range}
-use Rattle.trace_laws.proofs.Pushes.{Ordered-push, each_mapped, each_push, range_push}
 
 -- a place behind n, and behind it for a writer
 abbrev pub IsBehind : ℕ → Bool → ℕ → Type 0

@@ -19,9 +19,10 @@ use Rattle.ledger_model.specs.declared.listing.Row.{Row}
 use Rattle.ledger_model.specs.Run.{Retried}
 use Rattle.ledger_model.specs.Replays.{AreStamped, ArePlaced, ComesBefore, CountsAttempts, IsBlocked, IsPlaced, ListsJob, ListsScripts, MayPrecede, NamesScript, Replays, TellsReader, TellsRolled, TellsWriter, attempts_of, contents_after, names_of, others_of, rolled_of, rows_of, run_after, run_of, scripts_of, settled_by, writer_count, writers_of}
 use Rattle.ledger_model.specs.Traced.{IsListed, Trace, attempt_in, has_left, is_parked, left_where, retried_at, workers_of}
+use Rattle.ledger_model.proofs.Lists.{each_weaker}
 use Rattle.trace_laws.proofs.Tracked.{ComesEarlier, ShowsRolled, ShowsRow, StandsBetween, contents_at, run_at}
 use Rattle.trace_laws.proofs.Left.{each_left, left_ascends, worker_left}
-use Rattle.trace_laws.proofs.Lists.{Has, Has-middle, Ordered, each_both, each_filter, each_flat_map, each_has, each_passing, each_permutation, each_weaker, filter_none}
+use Rattle.trace_laws.proofs.Lists.{Has, Has-middle, Ordered, each_both, each_filter, each_flat_map, each_has, each_passing, each_permutation, filter_none}
 use Rattle.trace_laws.proofs.Numbers.{IsBetween, each_in_range}
 use Rattle.trace_laws.proofs.Resting.{Rested, contents_last, may_not_begin, rests, tracks, written}
 use Rattle.trace_laws.proofs.Stamps.{are_stamped, as_many, left_alike}

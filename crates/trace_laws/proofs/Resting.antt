@@ -14,9 +14,9 @@ use Rattle.ledger_model.specs.declared.listing.Listing.{Listing}
 use Rattle.ledger_model.specs.Contents.{opening_contents}
 use Rattle.ledger_model.specs.Traced.{IsListed, MayBeTraced, Trace, attempt_in, is_flying, may_begin, refs_in, terms_of_job, whose, workers_of}
 use Rattle.ledger_model.proofs.Listed.{listed_sized}
+use Rattle.ledger_model.proofs.Lists.{neither, none_where}
 use Rattle.trace_laws.proofs.Told.{with_refs}
 use Rattle.trace_laws.proofs.Tracked.{HasWriter, Rests, Tracked, TracksWorker, contents_at}
-use Rattle.trace_laws.proofs.Left.{neither, none_where}
 use Rattle.trace_laws.proofs.Lists.{each_has}
 use Rattle.trace_laws.proofs.Numbers.{IsBetween, Has-range}
 

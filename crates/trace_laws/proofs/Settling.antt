@@ -1,7 +1,6 @@
 -- A worker's attempt is over and listed, as a row or as a rolled line, and the trace is tracked again. Here s is the trace before and p the worker.
 use Rattle.std.proofs.Common.{◌≡◌, ◌≢◌, ◌++◌, ℕ, suc, ◌<◌, ◌≤◌, Bool, true, false, MatchBool, nat_eq, List, [], ◌∷◌, length, Some, refl, sym, ap, ◌∙◌, subst, arith, inl, inr, append_assoc}
-use Rattle.std.proofs.lemmas.Bool.{cases_eq}
-use Rattle.std.proofs.lemmas.Bool.Decides.{nat_tests}
+use Rattle.std.proofs.lemmas.Bool.{cases_eq, eq-eqb, eqb-true, ne_eqb}
 use Rattle.std.proofs.lemmas.List.{length_push}
 use Rattle.std.proofs.lemmas.List.Elements.{filter_passes, recursion_from_All}
 use Rattle.std.specs.List.{AllByRecursion}
@@ -16,21 +15,12 @@ use Rattle.ledger_model.specs.declared.listing.Rolled.{Rolled}
 use Rattle.ledger_model.specs.declared.listing.Row.{Row}
 use Rattle.ledger_model.specs.Replays.{rolled_of, rows_of, scripts_of, settled_by}
 use Rattle.ledger_model.specs.Traced.{Trace, attempt_in, is_flying}
+use Rattle.ledger_model.proofs.Lists.{each_weaker, filter_keeps, filter_leaves}
 use Rattle.trace_laws.proofs.Tracked.{Flies, HasWriter, IsAccounted, ListsWorker, Rests, ShowsRolled, ShowsRow, Tracked, TracksWorker}
 use Rattle.trace_laws.proofs.Lasting.{worker_lasts}
-use Rattle.trace_laws.proofs.Lists.{each_weaker}
+use Rattle.trace_laws.proofs.Lists.{each_push}
 use Rattle.trace_laws.proofs.Midway.{AreFrom, AreOrdered, IsAccountedBut, Midway}
 use Rattle.trace_laws.proofs.Placing.{IsBehind, line_placed, row_placed}
-use Rattle.trace_laws.proofs.Pushes.{each_push, filter_keeps, filter_leaves}
-
-same_passes : (a b : ℕ) → a ≡ b → nat_eq a b ≡ true
-same_passes a b same = grind (arith, nat_tests)
-
-other_fails : (a b c : ℕ) → a ≡ b → c ≢ b → nat_eq a c ≡ false
-other_fails a b c same apart = grind (arith, nat_tests)
-
-passes_same : (a b : ℕ) → nat_eq a b ≡ true → a ≡ b
-passes_same a b passes = grind (arith, nat_tests)
 
 -- a listed writer stays listed
 writer_stays : (rows : List Row) (row : Row) (position : ℕ) → HasWriter rows position → HasWriter (rows ++ row ∷ []) position
@@ -124,7 +114,7 @@ module _ {lawful : List ℕ → Type 0} {may : List ℕ → List ℕ → Type 0}
     with_it = s.rows ++ row ∷ []
 
     own_rows : rows_of p with_it ≡ rows_of p s.rows ++ row ∷ []
-    own_rows = filter_keeps (λ (each : Row). nat_eq each.worker p) s.rows row (same_passes row.worker p worker)
+    own_rows = filter_keeps (λ (each : Row). nat_eq each.worker p) s.rows row (eq-eqb row.worker p worker)
 
     one_more : settled_by with_it p ≡ suc (settled_by s.rows p)
     one_more = let long = length_push (rows_of p s.rows) row in let same : settled_by with_it p ≡ length (rows_of p s.rows ++ row ∷ []) = ap length own_rows in omega (arith, long, same)
@@ -143,7 +133,7 @@ module _ {lawful : List ℕ → Type 0} {may : List ℕ → List ℕ → Type 0}
         let left = old.own.left in
         let made = old.own.made in
         record {
-          other_rows = λ q apart. filter_leaves (λ (each : Row). nat_eq each.worker q) s.rows row (other_fails row.worker p q worker apart);
+          other_rows = λ q apart. filter_leaves (λ (each : Row). nat_eq each.worker q) s.rows row (ne_eqb row.worker q (λ same. apart (sym same ∙ worker)));
           other_lines = λ q apart. refl;
           shown_rows = each_push (ShowsRow job settings h) s.rows row old.around.rows shows;
           shown_lines = old.around.rolled;
@@ -165,7 +155,7 @@ module _ {lawful : List ℕ → Type 0} {may : List ℕ → List ℕ → Type 0}
     with_line = s.rolled ++ line ∷ []
 
     own_lines : rolled_of p with_line ≡ rolled_of p s.rolled ++ line ∷ []
-    own_lines = filter_keeps (λ (each : Rolled). nat_eq each.worker p) s.rolled line (same_passes line.worker p worker)
+    own_lines = filter_keeps (λ (each : Rolled). nat_eq each.worker p) s.rolled line (eq-eqb line.worker p worker)
 
     line_more : length (rolled_of p with_line) ≡ suc (length (rolled_of p s.rolled))
     line_more = let long = length_push (rolled_of p s.rolled) line in let same : length (rolled_of p with_line) ≡ length (rolled_of p s.rolled ++ line ∷ []) = ap length own_lines in omega (arith, long, same)
@@ -173,7 +163,7 @@ module _ {lawful : List ℕ → Type 0} {may : List ℕ → List ℕ → Type 0}
     own_workers : AllByRecursion (λ earlier. earlier.worker ≡ line.worker) (rolled_of p s.rolled)
     own_workers =
         each_weaker (λ (earlier : Rolled). nat_eq earlier.worker p ≡ true) (λ (earlier : Rolled). earlier.worker ≡ line.worker)
-        (λ earlier passes. passes_same earlier.worker p passes ∙ sym worker) (rolled_of p s.rolled)
+        (λ earlier passes. eqb-true earlier.worker p passes ∙ sym worker) (rolled_of p s.rolled)
         (recursion_from_All (λ (earlier : Rolled). nat_eq earlier.worker p ≡ true) (rolled_of p s.rolled) (filter_passes (λ (earlier : Rolled). nat_eq earlier.worker p) s.rolled))
 
     accounted_still : (n : ℕ) → IsAccountedBut p s n → IsAccounted (relisted s.rows with_line) n
@@ -189,7 +179,7 @@ module _ {lawful : List ℕ → Type 0} {may : List ℕ → List ℕ → Type 0}
         let made = old.own.made in
         record {
           other_rows = λ q apart. refl;
-          other_lines = λ q apart. filter_leaves (λ (each : Rolled). nat_eq each.worker q) s.rolled line (other_fails line.worker p q worker apart);
+          other_lines = λ q apart. filter_leaves (λ (each : Rolled). nat_eq each.worker q) s.rolled line (ne_eqb line.worker q (λ same. apart (sym same ∙ worker)));
           shown_rows = old.around.rows;
           shown_lines = each_push (ShowsRolled job settings h) s.rolled line old.around.rolled shows;
           ordered = rw own_lines (line_placed (rows_of p s.rows) (rolled_of p s.rolled) old.own.ordered (s.world.view p).since from line number behind own_workers);

@@ -1,7 +1,6 @@
 -- What a worker's attempt shows at its end, by how it ended, and that the trace is tracked then. Here s is the trace before and p the worker.
 use Rattle.std.proofs.Common.{◌≡◌, ℕ, suc, ◌-◌, ◌^◌, ◌<◌, ◌≤◌, Bool, true, false, IsTrue, MatchBool, nat_lt, if◌then◌else◌, max, List, [], length, get_or, Option, Some, None, refl, sym, ap, ◌∙◌, subst, arith, inl, inr}
-use Rattle.std.proofs.lemmas.Bool.{cases_eq}
-use Rattle.std.proofs.lemmas.Bool.Decides.{nat_tests}
+use Rattle.std.proofs.lemmas.Bool.{cases_eq, le-ltb, lt-ltb}
 use Rattle.std.proofs.lemmas.List.Elements.{All-from_recursion}
 use Rattle.std.specs.List.{AllByRecursion}
 use Rattle.stm_model.specs.Attempt.{Attempt, Ended, Stage, flies_at, stamp_in, stamp_of}
@@ -49,17 +48,11 @@ use Rattle.trace_laws.proofs.Speaking.{Pauses, script_in, told_kept}
 settles_kept : (o : Outcome) (writers limit : ℕ) (wrote : Bool) → o.end ≡ Kept → o.after.wrote ≡ wrote → settle o writers limit ≡ (if wrote then (if nat_lt writers limit then Commits else Spends) else OnlyReads)
 settles_kept o writers limit wrote end is = rw (end, is) refl
 
-room : (writers limit : ℕ) → writers < limit → nat_lt writers limit ≡ true
-room writers limit less = grind (arith, nat_tests)
-
-no_room : (writers limit : ℕ) → writers ≡ limit → nat_lt writers limit ≡ false
-no_room writers limit same = grind (arith, nat_tests)
-
 commits : (o : Outcome) (writers limit : ℕ) → o.end ≡ Kept → o.after.wrote ≡ true → writers < limit → settle o writers limit ≡ Commits
-commits o writers limit end wrote less = settles_kept o writers limit true end wrote ∙ ap (λ (b : Bool). if b then Commits else Spends) (room writers limit less)
+commits o writers limit end wrote less = settles_kept o writers limit true end wrote ∙ ap (λ (b : Bool). if b then Commits else Spends) (lt-ltb writers limit less)
 
 spends : (o : Outcome) (writers limit : ℕ) → o.end ≡ Kept → o.after.wrote ≡ true → writers ≡ limit → settle o writers limit ≡ Spends
-spends o writers limit end wrote same = settles_kept o writers limit true end wrote ∙ ap (λ (b : Bool). if b then Commits else Spends) (no_room writers limit same)
+spends o writers limit end wrote same = settles_kept o writers limit true end wrote ∙ ap (λ (b : Bool). if b then Commits else Spends) (le-ltb writers limit (omega (arith, same)))
 
 fails : (o : Outcome) (writers limit code : ℕ) → o.end ≡ Failed code → settle o writers limit ≡ Fails code
 fails o writers limit code end = rw end refl
@@ -75,10 +68,6 @@ only_retry (Doomed status) text own = absurd own
 only_retry (ClockMoved first second) text own = absurd own
 only_retry Retry text own = refl
 only_retry cause text own = let never : false ≡ true = text in cc
-
--- what holds of each holds of one
-pub at_place : {X : Type 0} (P : X → Type 0) (xs : List X) (i : ℕ) (d : X) → AllByRecursion P xs → i < length xs → P (get_or xs i d)
-at_place P xs i d each within = All-from_recursion P xs each i d within
 
 module _ {lawful : List ℕ → Type 0} {may : List ℕ → List ℕ → Type 0} {job : Job} {settings : Settings} (traced : MayBeTraced job settings) (p : ℕ) (caller : IsCaller (terms_of_job job settings) p)
     (worker : p ≤ length job.workers) (s : Trace) (old : Pauses lawful may job settings p s) where
@@ -116,13 +105,13 @@ module _ {lawful : List ℕ → Type 0} {may : List ℕ → List ℕ → Type 0}
 
   script_fits : ScriptFits (places job) script
   script_fits =
-      let fits : WorkerFits (places job) (scripts_of job p) = at_place (WorkerFits (places job)) job.workers (p - 1) [] traced.fits.scripts within in
-      at_place (ScriptFits (places job)) (scripts_of job p) (number - 1) (record { block = [] }) fits.1 inside
+      let fits : WorkerFits (places job) (scripts_of job p) = All-from_recursion (WorkerFits (places job)) job.workers traced.fits.scripts (p - 1) [] within in
+      All-from_recursion (ScriptFits (places job)) (scripts_of job p) fits.1 (number - 1) (record { block = [] }) inside
 
   few : statement_count script.block ≤ 2 ^ 32
   few =
-      let counted = at_place (AllByRecursion (λ (script : Script). statement_count script.block ≤ 2 ^ 32)) job.workers (p - 1) [] traced.statements within in
-      at_place (λ (script : Script). statement_count script.block ≤ 2 ^ 32) (scripts_of job p) (number - 1) (record { block = [] }) counted inside
+      let counted = All-from_recursion (AllByRecursion (λ (script : Script). statement_count script.block ≤ 2 ^ 32)) job.workers traced.statements (p - 1) [] within in
+      All-from_recursion (λ (script : Script). statement_count script.block ≤ 2 ^ 32) (scripts_of job p) counted (number - 1) (record { block = [] }) inside
 
   -- ---- where it has ended
 

@@ -16,9 +16,10 @@ use Rattle.ledger_model.specs.declared.listing.Row.{Row}
 use Rattle.ledger_model.specs.Contents.{opening_contents}
 use Rattle.ledger_model.specs.Order.{kind_rank, less_or_tied}
 use Rattle.ledger_model.specs.Replays.{AreStamped, InOrder, after_writers, contents_after, left_by, rows_of, writer_count, writers_of}
+use Rattle.ledger_model.proofs.Lists.{each_weaker}
 use Rattle.trace_laws.proofs.Told.{with_refs}
 use Rattle.trace_laws.proofs.Tracked.{ComesEarlier, HasWriter, ShowsRow, ShowsWriter, contents_at, run_at}
-use Rattle.trace_laws.proofs.Lists.{Has, Has-filter, Has-from_filter, Has-permutation, Ordered, Ordered-filter, Ordered-map, Ordered-weaker, each_filter, each_from, each_has, each_map, each_permutation, each_weaker, from_pairs, ordered_either, Has-map, Has-middle}
+use Rattle.trace_laws.proofs.Lists.{Has, Has-filter, Has-from_filter, Has-map, Has-middle, Has-permutation, Ordered, Ordered-filter, Ordered-map, Ordered-weaker, each_filter, each_from, each_has, each_map, each_permutation, from_pairs, ordered_either}
 use Rattle.trace_laws.proofs.Numbers.{IsBetween, counts_up}
 use Rattle.trace_laws.proofs.RowsInOrder.{Before}
 

@@ -1,6 +1,7 @@
 -- Each turn keeps a trace tracked. Here s is the trace before and p the worker.
 use Rattle.std.proofs.Common.{◌≡◌, ◌≢◌, ℕ, zero, suc, ◌+◌, ◌-◌, ◌^◌, ◌<◌, ◌≤◌, Bool, true, false, not, ◌&&◌, IsTrue, MatchBool, nat_lt, if◌then◌else◌, max, IfSome, List, [], ◌∷◌, length, get_or, Option, Some, None, refl, sym, ap, ◌∙◌, subst, arith, inl, inr}
-use Rattle.std.proofs.lemmas.Bool.Decides.{nat_tests}
+use Rattle.std.proofs.lemmas.Bool.{and_parts, ltb-true}
+use Rattle.std.proofs.lemmas.List.Elements.{All-from_recursion}
 use Rattle.std.specs.List.{AllByRecursion, find, range_with_len}
 use Rattle.std.specs.Option.{option_map_or, option_or}
 use Rattle.meta_word.specs.declared.status.TheConstants.{MAX_SERIAL}
@@ -27,26 +28,17 @@ use Rattle.ledger_model.specs.Talk.{talk}
 use Rattle.ledger_model.specs.Traced.{MayBeTraced, Progress, Trace, access, attempt_in, begins, fresh, has_left, is_flying, is_parked, may_begin, onward, terms_of_job, turn, turns, whose, with_progress, workers_of}
 use Rattle.ledger_model.proofs.Listed.{listed_sized}
 use Rattle.ledger_model.proofs.Turning.{script_may}
+use Rattle.ledger_model.proofs.Lists.{each_weaker}
 use Rattle.trace_laws.proofs.Told.{IsTold}
 use Rattle.trace_laws.proofs.Tracked.{Flies, Rests, Tracked, TracksWorker}
 use Rattle.trace_laws.proofs.Answering.{begins as begins_told}
 use Rattle.trace_laws.proofs.Happening.{Affects, move_affects}
 use Rattle.trace_laws.proofs.Lasting.{worker_lasts}
-use Rattle.trace_laws.proofs.Lists.{each_weaker}
 use Rattle.trace_laws.proofs.Midway.{Around, Own}
 use Rattle.trace_laws.proofs.Numbers.{IsBetween, each_in_range}
 use Rattle.trace_laws.proofs.Resting.{ended_here}
-use Rattle.trace_laws.proofs.Showing.{at_place, ends_on}
+use Rattle.trace_laws.proofs.Showing.{ends_on}
 use Rattle.trace_laws.proofs.Speaking.{Runs, Tells, acts_on, script_in}
-
-both_true : (a b c : Bool) → (a && b && c) ≡ true → (a ≡ true) × (c ≡ true)
-both_true true true true is = (refl, refl)
-both_true true true false is = let never : false ≡ true = is in cc
-both_true true false c is = let never : false ≡ true = is in cc
-both_true false b c is = let never : false ≡ true = is in cc
-
-less : (a b : ℕ) → nat_lt a b ≡ true → a < b
-less a b is = grind (arith, nat_tests)
 
 module _ (lawful : List ℕ → Type 0) (may : List ℕ → List ℕ → Type 0) (all_lawful : (heap : List ℕ) → lawful heap) (all_may : (heap next : List ℕ) → may heap next)
     (job : Job) (settings : Settings) (traced : MayBeTraced job settings) (attempts : settings.attempts ≤ MAX_SERIAL) where
@@ -113,14 +105,14 @@ module _ (lawful : List ℕ → Type 0) (may : List ℕ → List ℕ → Type 0)
         stands : Rests s p
         stands = subst (λ (b : Bool). MatchBool b (Flies job s p) (Rests s p)) grounded own.stands
 
-        tests : (has_left job s p ≡ true) × (nat_lt t.serial settings.attempts ≡ true)
-        tests = both_true (has_left job s p) (not (is_parked s p)) (nat_lt t.serial settings.attempts) able
+        tests : ((has_left job s p && not (is_parked s p)) ≡ true) × (nat_lt t.serial settings.attempts ≡ true)
+        tests = and_parts (has_left job s p && not (is_parked s p)) (nat_lt t.serial settings.attempts) able
 
         left : settled_by s.rows p < length (scripts_of job p)
-        left = less (settled_by s.rows p) (length (scripts_of job p)) tests.0
+        left = ltb-true (settled_by s.rows p) (length (scripts_of job p)) (and_parts (has_left job s p) (not (is_parked s p)) tests.0).0
 
         fewer : t.serial < settings.attempts
-        fewer = less t.serial settings.attempts tests.1
+        fewer = ltb-true t.serial settings.attempts tests.1
 
         may_move : May (cells_in terms) terms.limit t (Begins settings)
         unfolding May
@@ -206,11 +198,11 @@ module _ (lawful : List ℕ → Type 0) (may : List ℕ → List ℕ → Type 0)
 
         allowed : IsAllowed (length base.refs) first_footing (talk script.block)
         allowed =
-            let fits : WorkerFits (places job) (scripts_of job p) = at_place (WorkerFits (places job)) job.workers (p - 1) [] traced.fits.scripts within in
-            let counted = at_place (AllByRecursion (λ (script : Script). statement_count script.block ≤ 2 ^ 32)) job.workers (p - 1) [] traced.statements within in
+            let fits : WorkerFits (places job) (scripts_of job p) = All-from_recursion (WorkerFits (places job)) job.workers traced.fits.scripts (p - 1) [] within in
+            let counted = All-from_recursion (AllByRecursion (λ (script : Script). statement_count script.block ≤ 2 ^ 32)) job.workers traced.statements (p - 1) [] within in
             rw (listed_sized job [] 0).0
-            (script_may (places job) script.block 32 (omega arith) (at_place (ScriptFits (places job)) (scripts_of job p) (suc (settled_by s.rows p) - 1) (record { block = [] }) fits.1 inside)
-            (at_place (λ (script : Script). statement_count script.block ≤ 2 ^ 32) (scripts_of job p) (suc (settled_by s.rows p) - 1) (record { block = [] }) counted inside))
+            (script_may (places job) script.block 32 (omega arith) (All-from_recursion (ScriptFits (places job)) (scripts_of job p) fits.1 (suc (settled_by s.rows p) - 1) (record { block = [] }) inside)
+            (All-from_recursion (λ (script : Script). statement_count script.block ≤ 2 ^ 32) (scripts_of job p) counted (suc (settled_by s.rows p) - 1) (record { block = [] }) inside))
 
         told : Tells job p next
         unfolding happened moved

@@ -10,8 +10,9 @@ use Rattle.ledger_model.specs.declared.listing.Rolled.{Rolled}
 use Rattle.ledger_model.specs.declared.listing.Row.{Row}
 use Rattle.ledger_model.specs.Order.{kind_rank, less_or_tied}
 use Rattle.ledger_model.specs.Replays.{InOrder, MayPrecede, rolled_of, rows_of}
+use Rattle.ledger_model.proofs.Lists.{each_weaker}
 use Rattle.trace_laws.proofs.Tracked.{ComesEarlier}
-use Rattle.trace_laws.proofs.Lists.{Has, Has-filter, Has-from_filter, Has-permutation, Ordered, Ordered-filter, Ordered-flat_map, Ordered-weaker, all_pairs, each_from, each_weaker, filter_all, filter_none, from_pairs, ordered_same}
+use Rattle.trace_laws.proofs.Lists.{Has, Has-filter, Has-from_filter, Has-permutation, Ordered, Ordered-filter, Ordered-flat_map, Ordered-weaker, all_pairs, each_from, filter_all, filter_none, from_pairs, ordered_same}
 use Rattle.trace_laws.proofs.Numbers.{IsBetween, Has-range, each_in_range, one_part, range_ascends}
 use Rattle.trace_laws.proofs.RowsInOrder.{Before, rows_apart}
 

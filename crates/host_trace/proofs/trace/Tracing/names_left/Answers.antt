@@ -2,7 +2,8 @@ use Rattle.std.proofs.Common.{◌≡◌, ◌≤◌, ◌+◌, ℕ, suc, List, ◌
 use Rattle.ledger_model.specs.Replays.{settled_by}
 use Rattle.ledger_model.specs.Traced.{is_flying}
 use Rattle.host_trace.specs.Tracings.{parked_so}
-use Rattle.host_trace.proofs.Firsts.{fails_at, first_is_none}
+use Rattle.ledger_model.proofs.Lists.{neither}
+use Rattle.host_trace.proofs.Firsts.{fails_at}
 use Rattle.host_trace.proofs.Names.{names_from, names_pass, names_push}
 use Rattle.host_trace.proofs.Standing.{works_there}
 use Rattle.host_trace.proofs.trace.Tracing.names_left.Goals as goal
@@ -12,7 +13,7 @@ pub is_left-requires-clause-rests : goal.is_left-requires-clause-rests
 is_left-requires-clause-rests c = λ s traces.
     let job = c.args.self.now.job.now in
     let within : c.loop-worker.worker ≤ length job.workers = omega (arith, c.requires.stands.traces.workers, c.loop-worker-test.true) in
-    fails_at (is_flying s) 1 (length job.workers) c.loop-worker.worker (first_is_none _ _ (c.requires.over s traces)) c.loop-worker.auto.worker (omega arith)
+    fails_at (is_flying s) 1 (length job.workers) c.loop-worker.worker (neither _ _ (c.requires.over s traces)).0 c.loop-worker.auto.worker (omega arith)
 
 pub loop-worker-preserved : goal.loop-worker-preserved
 loop-worker-preserved c = λ s traces.
