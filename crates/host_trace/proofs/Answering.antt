@@ -1,17 +1,17 @@
 -- What comes of a script that is given an answer.
-use Rattle.std.proofs.Common.{◌≡◌, ◌≤◌, ◌<◌, ◌^◌, ◌⊎◌, inl, inr, ℕ, Bool, true, false, if◌then◌else◌, List, [], length, Option, Some, None, ap, sym, ◌∙◌, refl, subst, arith}
+use Rattle.std.proofs.Common.{◌≡◌, inr, ℕ, Bool, true, false, if◌then◌else◌, [], length, Option, Some, None, ap, sym, ◌∙◌, refl, arith}
 use Rattle.std.specs.Option.{option_map_or}
 use Rattle.stm_model.specs.World.{IsCaller}
 use Rattle.stm_model.specs.declared.law.Free.{Free}
 use Rattle.ledger_model.specs.Allowed.{Footing, IsAllowed}
 use Rattle.ledger_model.specs.Talk.{Talk, Over, Says, Asks, Ends}
-use Rattle.ledger_model.specs.Traced.{Trace, answer_at, answer_in, attempt_in as attempt_at, goes_on, speaks}
+use Rattle.ledger_model.specs.Traced.{Trace, answer_at, answer_in, goes_on, speaks}
 use Rattle.script_cursor.specs.Cursors.{after, is_over, talk_of}
 use Rattle.world_run.specs.Simulation.{Simulation, attempt_in, terms_in}
 use Rattle.world_run.proofs.Seats.{none_changed}
 use Rattle.host_trace.specs.declared.flight.Flight.{Flight}
-use Rattle.host_trace.specs.Flights.{AwaitsIn, Follows, GoesOn, HasHeard, Hearing, IsShown, Leads, SpeaksOut, ahead, done, rest_of}
-use Rattle.host_trace.specs.Footings.{Expects, Hears, Rests, footing_at, rank}
+use Rattle.host_trace.specs.Flights.{AwaitsIn, GoesOn, HasHeard, Hearing, IsShown, Leads, SpeaksOut, done, rest_of}
+use Rattle.host_trace.specs.Footings.{Expects, footing_at}
 use Rattle.host_trace.proofs.Leading.{same_none}
 use Rattle.host_trace.proofs.Speaking.{answers_held, goes_on_allowed, hears_then}
 

@@ -1,13 +1,13 @@
 -- What comes of an attempt that is asked, whose before-commit body is over, or that gives up.
-use Rattle.std.proofs.Common.{◌≡◌, ◌≤◌, ◌<◌, ◌⊎◌, inl, inr, ℕ, Bool, true, false, List, [], ◌∷◌, ◌++◌, length, Option, Some, None, IsSome, ap, sym, ◌∙◌, refl, subst, arith}
+use Rattle.std.proofs.Common.{◌≡◌, ◌⊎◌, inl, inr, ℕ, Bool, true, false, List, [], ◌∷◌, Option, Some, None, IsSome, ap, sym, ◌∙◌, refl, subst}
 use Rattle.std.specs.Option.{option_map_or}
 use Rattle.opacity.proofs.Places.{replaced_here}
 use Rattle.stm_core.specs.Machine.{next_of}
 use Rattle.stm_model.specs.Accesses.{next_at, unless_due}
 use Rattle.stm_model.specs.After.{roll_on, rolled, stopped}
 use Rattle.stm_model.specs.Attempt.{Attempt, Close, Due, RollBack, Stage, Stopped, Write, cause_at}
-use Rattle.stm_model.specs.Moves.{AwaitsAskAt, EndsLate, May, MayAsk, MayRunOut, Move, OutOfMemory, Takes, asked_at, asked_stopped, moved}
-use Rattle.stm_model.specs.World.{Event, IsCaller, MayHappen, Moves, World, attempt_of, cells_in, happened}
+use Rattle.stm_model.specs.Moves.{AwaitsAskAt, EndsLate, May, MayAsk, MayRunOut, OutOfMemory, Takes, asked_at, asked_stopped, moved}
+use Rattle.stm_model.specs.World.{IsCaller, MayHappen, Moves, World}
 use Rattle.stm_model.specs.declared.access.Ask.{Ask}
 use Rattle.stm_model.specs.declared.access.Ask.TheVariants.{Abandon, Enter, Keep, Undo}
 use Rattle.stm_model.specs.declared.cause.Cause.{Cause}

@@ -1,14 +1,14 @@
 -- A worker's next attempt begins, of its first script that isn't settled. Here t is the job on its way, p the worker and s a trace.
-use Rattle.std.proofs.Common.{◌≡◌, ℕ, suc, ◌+◌, ◌-◌, ◌^◌, ◌<◌, ◌≤◌, Bool, true, false, not, ◌&&◌, nat_lt, IsTrue, List, [], length, get_or, set, Some, refl, ap, sym, subst, ◌∙◌, arith}
-use Rattle.std.specs.List.{All, AllByRecursion, slice_get}
+use Rattle.std.proofs.Common.{◌≡◌, ℕ, suc, ◌-◌, ◌^◌, ◌<◌, ◌≤◌, true, false, not, ◌&&◌, nat_lt, IsTrue, List, [], length, get_or, set, Some, refl, ap, sym, subst, ◌∙◌, arith}
+use Rattle.std.specs.List.{AllByRecursion, slice_get}
 use Rattle.std.proofs.lemmas.Bool.{and_parts}
 use Rattle.std.proofs.lemmas.Bool.Decides.{nat_tests}
 use Rattle.std.proofs.lemmas.List.Elements.{All-from_recursion}
 use Rattle.std.proofs.lemmas.Option.{get_or_from_slice_get, slice_get_within}
 use Rattle.opacity.proofs.Places.{attempt_here}
-use Rattle.stm_model.specs.Attempt.{Attempt, Stage, flies_at}
+use Rattle.stm_model.specs.Attempt.{Attempt, flies_at}
 use Rattle.stm_model.specs.Moves.{Begins, moved}
-use Rattle.stm_model.specs.World.{IsCaller, Moves, World, attempt_of, happened}
+use Rattle.stm_model.specs.World.{Moves, attempt_of, happened}
 use Rattle.stm_model.specs.declared.law.Free.{Free}
 use Rattle.stm_model.specs.declared.settings.Settings.{Settings}
 use Rattle.ledger_model.specs.declared.job.Job.{Job}
@@ -23,7 +23,7 @@ use Rattle.ledger_model.proofs.Turning.{script_may}
 use Rattle.world_run.specs.Simulation.{Simulation, MayBegin, attempt_in}
 use Rattle.host_trace.specs.declared.trace.Tracing.{Tracing}
 use Rattle.host_trace.specs.declared.worker.Worker.{Worker}
-use Rattle.host_trace.specs.Tracings.{BeginsOn, IsTracing, IsWorker, Traces, TracesOn}
+use Rattle.host_trace.specs.Tracings.{BeginsOn, IsWorker, Traces, TracesOn}
 use Rattle.host_trace.proofs.Numbers.{Spares, stays_spares}
 use Rattle.host_trace.proofs.Others.{happens_stays, progress_stays, stays_on}
 use Rattle.host_trace.proofs.Standing.{over_there, same_attempt, works_there}

@@ -1,17 +1,17 @@
 -- What is due is done, one thing after another.
-use Rattle.std.proofs.Common.{◌≡◌, ◌≤◌, ◌<◌, ℕ, Bool, true, false, List, [], ◌∷◌, ◌++◌, length, Option, ap, sym, ◌∙◌, refl, subst, append-nil, arith}
+use Rattle.std.proofs.Common.{◌≡◌, ◌<◌, ℕ, false, List, [], ◌∷◌, ◌++◌, length, ap, sym, ◌∙◌, refl, subst, append-nil, arith}
 use Rattle.opacity.proofs.Places.{attempt_here}
 use Rattle.stm_core.specs.Machine.{next_of}
 use Rattle.stm_model.specs.Attempt.{Attempt, Due, Ring, Run}
 use Rattle.stm_model.specs.Moves.{Does, did_first, moved}
-use Rattle.stm_model.specs.World.{Event, IsCaller, Moves, Steps, World, attempt_of, happened}
+use Rattle.stm_model.specs.World.{IsCaller, Moves, Steps, World, attempt_of, happened}
 use Rattle.stm_model.specs.declared.law.Free.{Free}
 use Rattle.ledger_model.specs.Traced.{Progress, Trace, all_done, attempt_in as attempt_at, due_done, happens}
 use Rattle.world_run.specs.Simulation.{Simulation, IsSameOf, attempt_in, terms_in, turn_of}
 use Rattle.world_run.proofs.Seats.{caller_then}
 use Rattle.host_trace.specs.declared.said.Said.{Said}
 use Rattle.host_trace.specs.Flights.{Follows, Leads, ShowsWorld, done}
-use Rattle.host_trace.specs.Footings.{IsDone, Stays}
+use Rattle.host_trace.specs.Footings.{Stays}
 use Rattle.host_trace.specs.Tellings.{IsTold, tells_due, told_run}
 use Rattle.host_trace.proofs.Leading.{Comes, attempt_moved}
 use Rattle.host_trace.proofs.Telling.{did_stays, due_none, due_runs, run_none}

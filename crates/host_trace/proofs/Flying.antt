@@ -1,9 +1,9 @@
 -- What comes of an access of an attempt in flight, and of what follows it at once.
-use Rattle.std.proofs.Common.{◌≡◌, ◌≤◌, ◌<◌, ◌+◌, ◌*◌, ◌^◌, ◌⊎◌, inl, inr, ℕ, Bool, true, false, if◌then◌else◌, List, [], ◌∷◌, length, Option, Some, None, IsSome, MatchOption, ap, sym, ◌∙◌, refl, subst, arith}
+use Rattle.std.proofs.Common.{◌≡◌, ◌≤◌, ◌<◌, inl, inr, ℕ, List, [], ◌∷◌, length, Option, Some, None, IsSome, ap, sym, ◌∙◌, refl, subst, arith}
 use Rattle.stm_core.specs.Machine.{next_of, over, standing}
 use Rattle.stm_model.specs.Accesses.{next, next_at, unless_due}
-use Rattle.stm_model.specs.Attempt.{Attempt, Due, Ended, Stage, cause_at}
-use Rattle.stm_model.specs.World.{Event, IsCaller, Steps, World}
+use Rattle.stm_model.specs.Attempt.{Attempt, Due, Ended, cause_at}
+use Rattle.stm_model.specs.World.{IsCaller, Steps}
 use Rattle.stm_model.specs.declared.ending.Ending.{Ending}
 use Rattle.stm_model.specs.declared.law.Free.{Free}
 use Rattle.ledger_model.specs.Talk.{Talk}

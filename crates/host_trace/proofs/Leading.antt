@@ -1,20 +1,17 @@
 -- Traces that lead to one another, and what each event makes of one.
-use Rattle.std.proofs.Common.{◌≡◌, ◌≢◌, ◌≤◌, ◌<◌, ℕ, suc, Bool, true, false, List, [], ◌∷◌, ◌++◌, length, Option, Some, None, IsSome, ap, sym, ◌∙◌, refl, subst, arith}
+use Rattle.std.proofs.Common.{◌≡◌, ℕ, Option, Some, None, ap, sym, ◌∙◌, refl, subst, arith}
 use Rattle.opacity.proofs.Places.{attempt_here, replaced_here}
 use Rattle.stm_core.specs.Machine.{IsSameAttempt}
 use Rattle.stm_model.specs.Accesses.{Act, next}
-use Rattle.stm_model.specs.After.{after}
-use Rattle.stm_model.specs.Attempt.{Attempt, Due}
+use Rattle.stm_model.specs.Attempt.{Attempt}
 use Rattle.stm_model.specs.Moves.{Move, moved}
-use Rattle.stm_model.specs.World.{Event, IsCaller, Moves, Steps, Terms, View, World, attempt_of, found, happened, step_by, view_after, words_after}
+use Rattle.stm_model.specs.World.{Event, IsCaller, Moves, Steps, World, attempt_of, found, happened, step_by, view_after, words_after}
 use Rattle.stm_model.specs.declared.law.Free.{Free}
-use Rattle.ledger_model.specs.Talk.{Talk}
 use Rattle.ledger_model.specs.Traced.{Progress, Trace, happens, with_progress}
-use Rattle.world_run.specs.Simulation.{Simulation, HasSameTerms, Happens, IsSameOf, attempt_in, terms_in}
+use Rattle.world_run.specs.Simulation.{Simulation, Happens, IsSameOf, attempt_in, terms_in}
 use Rattle.world_run.proofs.Seats.{caller_then, none_changed, terms_on}
-use Rattle.host_trace.specs.declared.flight.Flight.{Flight}
 use Rattle.host_trace.specs.declared.said.Said.{Said}
-use Rattle.host_trace.specs.Flights.{Awaits, AwaitsIn, Follows, Leads, LeadsTo, ShowsWorld, done}
+use Rattle.host_trace.specs.Flights.{Follows, Leads, ShowsWorld, done}
 use Rattle.host_trace.specs.Footings.{footing_at, rank}
 use Rattle.host_trace.specs.Tellings.{IsTold}
 use Rattle.host_trace.proofs.Ranks.{Fits, access_fits}

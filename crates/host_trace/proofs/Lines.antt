@@ -4,11 +4,9 @@ use Rattle.std.specs.List.{flat_map, range_with_len}
 use Rattle.std.specs.List.Sorted.{IsPermutation, IsSortedBy}
 use Rattle.ledger_model.specs.declared.job.Contents.{Contents}
 use Rattle.ledger_model.specs.declared.listing.Listing.{Listing}
-use Rattle.ledger_model.specs.declared.listing.Rolled.{Rolled}
-use Rattle.ledger_model.specs.declared.listing.Row.{Row}
 use Rattle.ledger_model.specs.Contents.{opening_contents}
 use Rattle.ledger_model.specs.Order.{stands_before}
-use Rattle.ledger_model.specs.Replays.{InOrder, rolled_of}
+use Rattle.ledger_model.specs.Replays.{rolled_of}
 use Rattle.ledger_model.specs.Traced.{IsListed, Trace, left_where, refs_in, workers_of}
 use Rattle.host_trace.specs.declared.trace.Tracing.{Tracing}
 use Rattle.host_trace.specs.declared.worker.Worker.{Worker}

@@ -1,10 +1,9 @@
 -- The names of the scripts that are left. Here s is a trace and a the next worker.
-use Rattle.std.proofs.Common.{◌≡◌, ℕ, suc, ◌+◌, ◌-◌, ◌≤◌, Bool, true, false, not, ◌&&◌, cond, List, [], ◌∷◌, ◌++◌, length, map, refl, ap, sym, ◌∙◌, arith, append-nil, append_assoc}
-use Rattle.std.specs.Bool.{MatchBool}
+use Rattle.std.proofs.Common.{◌≡◌, ℕ, suc, ◌+◌, ◌-◌, ◌≤◌, Bool, true, false, ◌&&◌, cond, List, [], ◌∷◌, ◌++◌, length, map, refl, ap, sym, ◌∙◌, arith, append-nil, append_assoc}
 use Rattle.std.specs.List.{filter, range_with_len}
 use Rattle.ledger_model.specs.declared.job.Job.{Job}
 use Rattle.ledger_model.specs.Replays.{settled_by}
-use Rattle.ledger_model.specs.Traced.{Trace, has_left, is_parked, left_where}
+use Rattle.ledger_model.specs.Traced.{Trace, has_left, left_where}
 use Rattle.host_trace.proofs.Firsts.{from_more, from_none, from_on}
 
 module _ (job : Job) (s : Trace) (test : ℕ → Bool) where

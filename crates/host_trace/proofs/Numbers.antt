@@ -1,6 +1,6 @@
 -- What the end of a worker's attempt leaves of the rows and the rolled lines of others, and the numbers of its rows. Here p is the worker, s and u are traces, before and after.
-use Rattle.std.proofs.Common.{◌≡◌, ◌≢◌, inl, inr, ℕ, zero, suc, ◌+◌, add-zero, Bool, true, false, nat_eq, cond, if◌then◌else◌, List, [], ◌∷◌, ◌++◌, length, map, Option, Some, None, refl, ap, sym, subst, ◌∙◌, arith}
-use Rattle.std.specs.List.{filter, range_with_len}
+use Rattle.std.proofs.Common.{◌≡◌, ◌≢◌, inl, inr, ℕ, suc, ◌+◌, Bool, true, false, nat_eq, if◌then◌else◌, List, [], ◌∷◌, ◌++◌, length, map, Option, Some, None, refl, ap, sym, subst, ◌∙◌, arith}
+use Rattle.std.specs.List.{range_with_len}
 use Rattle.std.proofs.lemmas.Bool.{cases_eq, eq-eqb, ne_eqb}
 use Rattle.std.proofs.lemmas.List.{length_push, map-append}
 use Rattle.stm_model.specs.declared.cause.Cause.{Cause}
@@ -12,7 +12,7 @@ use Rattle.ledger_model.specs.declared.listing.Row.{Row}
 use Rattle.ledger_model.specs.declared.listing.RowResult.{RowResult}
 use Rattle.ledger_model.specs.declared.listing.RowResult.TheVariants.{Done, Fail, Spent}
 use Rattle.ledger_model.specs.Replays.{rolled_of, rows_of, settled_by}
-use Rattle.ledger_model.specs.Traced.{Progress, Trace, access, attempt_in, begins, ended_with, ends, is_flying, rolled_with, with_rolled, with_row}
+use Rattle.ledger_model.specs.Traced.{Trace, access, attempt_in, ended_with, is_flying, rolled_with, with_rolled, with_row}
 use Rattle.ledger_model.proofs.Lists.{filter_keeps, filter_leaves, range_push}
 use Rattle.host_trace.specs.Flights.{flown}
 use Rattle.host_trace.specs.Tracings.{AreNumbered}

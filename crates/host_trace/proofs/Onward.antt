@@ -6,7 +6,7 @@ use Rattle.stm_model.specs.declared.settings.Settings.{Settings}
 use Rattle.ledger_model.specs.declared.job.Job.{Job}
 use Rattle.ledger_model.specs.Traced.{Trace, onward, turn, turns, whose}
 use Rattle.host_trace.specs.declared.trace.Tracing.{Tracing}
-use Rattle.host_trace.specs.Tracings.{ComesTo, GoesOn, IsTracing, Traces, TracesOn}
+use Rattle.host_trace.specs.Tracings.{GoesOn, IsTracing, Traces, TracesOn}
 use Rattle.host_trace.proofs.Beginning.{traces_as, traces_on}
 
 module _ (job : Job) (settings : Settings) where

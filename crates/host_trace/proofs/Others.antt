@@ -4,13 +4,11 @@ use Rattle.std.specs.Option.{option_map_or}
 use Rattle.opacity.specs.Effects.{caller_of}
 use Rattle.opacity.proofs.Effects.{others_views}
 use Rattle.opacity.proofs.Places.{replaced_else}
-use Rattle.stm_model.specs.Attempt.{Attempt, Due, cause_at}
+use Rattle.stm_model.specs.Attempt.{Due, cause_at}
 use Rattle.stm_model.specs.Moves.{Does, EndsLate, Takes}
-use Rattle.stm_model.specs.World.{Event, Moves, Steps, View, World, attempt_of, happened}
+use Rattle.stm_model.specs.World.{Event, Moves, Steps, View}
 use Rattle.stm_model.specs.declared.access.Ask.{Ask}
 use Rattle.stm_model.specs.declared.access.Ask.TheVariants.{Abandon}
-use Rattle.ledger_model.specs.declared.listing.Rolled.{Rolled}
-use Rattle.ledger_model.specs.declared.listing.Row.{Row}
 use Rattle.ledger_model.specs.Talk.{Talk, Over, Says, Asks, Ends}
 use Rattle.ledger_model.specs.Traced.{Progress, Trace, all_done, answer_in, asked, attempt_in, due_done, gives_up, goes_on, happens, requested, returned, said, speaks, with_progress}
 use Rattle.host_trace.specs.Flights.{flown}

@@ -1,5 +1,5 @@
 -- What an access leaves of where an attempt stands among what its script asks: it comes no further from its end, and where it may still answer, on the same footing.
-use Rattle.std.proofs.Common.{◌≡◌, ◌≤◌, ◌<◌, ℕ, zero, suc, Bool, true, false, not, ◌&&◌, nat_eq, nat_lt, if◌then◌else◌, List, [], ◌∷◌, ◌++◌, Option, Some, None, ap, sym, ◌∙◌, refl, subst, arith}
+use Rattle.std.proofs.Common.{◌≡◌, ◌≤◌, ◌<◌, ℕ, zero, suc, Bool, true, false, not, ◌&&◌, nat_eq, nat_lt, if◌then◌else◌, List, [], ◌∷◌, Option, Some, None, ap, sym, ◌∙◌, refl, subst, arith}
 use Rattle.meta_word.specs.Meta.{changing_by_another, owned_by_another, same_but_pending, same_meta, still_has}
 use Rattle.meta_word.specs.Policy.{dooms}
 use Rattle.meta_word.specs.Status.{same_status}
@@ -8,7 +8,7 @@ use Rattle.meta_word.specs.declared.status.Phase.TheVariants.{Active, Idle, Prep
 use Rattle.meta_word.specs.declared.status.TxnStatus.{TxnStatus}
 use Rattle.stm_model.specs.Accesses.{Answer, Number, OfMeta, OfStatus, active}
 use Rattle.stm_model.specs.After.{acquire_again, acquiring, after, after_at, at, decided, exchanged, extend_on, extended, final_runs, is_active, mark_on, meta_acquired, meta_read, note_of, note_validated, owner_status_loaded, owner_validated, prepared, read_again, release_level_on, release_on, ring_if, roll_on, rolled, run_all, stopped, store_on, validate_on, validated}
-use Rattle.stm_model.specs.Attempt.{Attempt, Due, Stage, Write, Announce, Begin, Ready, Late, Stopped, ReadMeta, ExtendClock, ExtendNote, ReadValue, Validate, AcquireMeta, Acquire, OwnerStatus, OwnerMeta, DoomOwner, ReleaseLevel, Prepare, Mark, CommitClock, CommitNote, Decide, StoreValues, Release, RollBack, Close, Ended}
+use Rattle.stm_model.specs.Attempt.{Attempt, Stage, Write, Announce, Begin, Ready, Stopped, ReadMeta, ExtendClock, ExtendNote, ReadValue, Validate, AcquireMeta, Acquire, OwnerStatus, OwnerMeta, DoomOwner, ReleaseLevel, Prepare, Mark, CommitClock, CommitNote, Decide, StoreValues, Release, RollBack, Close, Ended}
 use Rattle.stm_model.specs.CellsState.{Book, outer, returned}
 use Rattle.stm_model.specs.Handlers.{Handlers, committing, preparing}
 use Rattle.stm_model.specs.Heap.{put}

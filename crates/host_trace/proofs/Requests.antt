@@ -1,12 +1,12 @@
 -- What a request leaves of where an attempt stands among what its script asks: where it may answer then, what follows may be asked of it.
-use Rattle.std.proofs.Common.{◌≡◌, ◌≤◌, ◌<◌, ◌^◌, ◌⊎◌, inl, inr, ℕ, zero, suc, Bool, true, false, nat_eq, nat_lt, if◌then◌else◌, List, [], ◌∷◌, ◌++◌, map, length, drop, Option, Some, None, IsSome, ap, sym, ◌∙◌, refl, subst, arith, length-append, length-drop}
+use Rattle.std.proofs.Common.{◌≡◌, ◌<◌, ◌^◌, inl, ℕ, suc, Bool, true, false, nat_eq, nat_lt, if◌then◌else◌, List, [], ◌∷◌, ◌++◌, length, drop, Option, Some, None, IsSome, ap, sym, refl, subst, arith, length-append, length-drop}
 use Rattle.std.proofs.lemmas.Bool.Decides.{nat_tests}
 use Rattle.std.specs.Map.{lookup}
-use Rattle.stm_model.specs.After.{at, done, note_of, release_level_on, roll_on, rolled, stopped}
-use Rattle.stm_model.specs.Attempt.{Attempt, Stage, Write, AcquireMeta, Close, Late, Prepare, ReadMeta, Ready, ReleaseLevel, Stopped}
+use Rattle.stm_model.specs.After.{at, note_of, release_level_on, roll_on, rolled}
+use Rattle.stm_model.specs.Attempt.{Attempt, Stage, Write, AcquireMeta, Close, Late, Prepare, ReadMeta, Ready, Stopped}
 use Rattle.stm_model.specs.CellsState.{Book, outer}
 use Rattle.stm_model.specs.Heap.{put, writes_to}
-use Rattle.stm_model.specs.Moves.{AwaitsAsk, AwaitsAskAt, EndsLate, MayAsk, Takes, asked_at, asked_going, conclude, enter_level, go_on, late_over_at, moved, read_buffered, read_noted, turn_to, undo_level, write_cell}
+use Rattle.stm_model.specs.Moves.{AwaitsAsk, AwaitsAskAt, EndsLate, MayAsk, Takes, asked_at, asked_going, conclude, late_over_at, moved, read_buffered, read_noted, turn_to, undo_level}
 use Rattle.stm_model.specs.Refusing.{IsOfBody, deepest}
 use Rattle.stm_model.specs.declared.access.Ask.{Ask}
 use Rattle.stm_model.specs.declared.access.Ask.TheVariants.{Abandon, Enter, Finish, Get, Hook, Keep, Later, Set, Undo}
@@ -15,8 +15,7 @@ use Rattle.stm_model.specs.declared.cause.Cause.TheVariants.{Retry, User}
 use Rattle.stm_model.specs.declared.ending.Ending.TheVariants.{Rolled}
 use Rattle.stm_model.specs.declared.note.Note.{Note}
 use Rattle.ledger_model.specs.Allowed.{AllowedAfter, Footing, GivesUp, IsAllowed, IsAllowedAsk, TurnsTo, footing_after}
-use Rattle.ledger_model.specs.Run.{Kept}
-use Rattle.ledger_model.specs.Talk.{Talk, Asks, Ends, Over}
+use Rattle.ledger_model.specs.Talk.{Talk, Asks, Ends}
 use Rattle.ledger_model.specs.Traced.{answer_at}
 use Rattle.world_run.specs.Simulation.{IsAskable, WaitsLate}
 use Rattle.host_trace.specs.Footings.{Expects, Hears, footing_at, footing_in, footing_of, laters_in, rank}

@@ -1,28 +1,24 @@
 -- What comes of what a script says, request by request.
-use Rattle.std.proofs.Common.{◌≡◌, ◌≤◌, ◌<◌, ◌^◌, ◌*◌, ◌+◌, ℕ, Bool, true, false, if◌then◌else◌, List, [], ◌∷◌, length, Option, Some, None, IsSome, IsTrue, IsFalse, MatchOption, MatchBool, ap, sym, ◌∙◌, refl, subst, arith}
+use Rattle.std.proofs.Common.{◌≡◌, ◌<◌, ◌^◌, ℕ, Bool, true, false, List, [], ◌∷◌, length, Option, Some, None, IsTrue, IsFalse, MatchOption, ap, sym, ◌∙◌, refl, subst, arith}
 use Rattle.std.specs.Option.{option_map_or}
 use Rattle.stm_core.specs.Machine.{next_of}
 use Rattle.stm_model.specs.Attempt.{Attempt, Late, Ready, ReleaseLevel, Stage}
 use Rattle.stm_model.specs.CellsState.{Book, returned}
-use Rattle.stm_model.specs.Moves.{EndsLate, Takes, moved}
 use Rattle.stm_model.specs.World.{IsCaller}
 use Rattle.stm_model.specs.declared.access.Ask.{Ask}
 use Rattle.stm_model.specs.declared.law.Free.{Free}
 use Rattle.ledger_model.specs.Allowed.{Footing, IsAllowed}
 use Rattle.ledger_model.specs.Talk.{Talk, Over, Says, Asks, Ends}
-use Rattle.ledger_model.specs.Traced.{Progress, Trace, answer_at, answer_in, requested, returned as body_returned, said, speaks, with_progress}
+use Rattle.ledger_model.specs.Traced.{Progress, Trace, answer_at, answer_in, said, speaks}
 use Rattle.script_cursor.specs.Cursors.{after, coming_of, is_over, left, talk_of}
-use Rattle.script_cursor.specs.declared.coming.Coming.{Coming}
 use Rattle.script_cursor.specs.declared.coming.Coming.TheVariants as coming
-use Rattle.world_run.specs.Simulation.{Simulation, HasSameTerms, attempt_in, terms_in}
+use Rattle.world_run.specs.Simulation.{Simulation, attempt_in, terms_in}
 use Rattle.world_run.proofs.Seats.{caller_then}
 use Rattle.host_trace.specs.declared.flight.Flight.{Flight}
-use Rattle.host_trace.specs.declared.said.Said.{Said}
-use Rattle.host_trace.specs.Flights.{Awaits, AwaitsIn, Follows, HasHeard, Hearing, IsShown, Leads, LeadsTo, Speaks, SpeaksOn, SpeaksOut, ahead, done, rest_of}
-use Rattle.host_trace.specs.Footings.{Expects, Hears, IsDone, Rests, footing_at, footing_in, footing_of, laters_in, rank}
+use Rattle.host_trace.specs.Flights.{Awaits, Follows, HasHeard, Hearing, IsShown, Leads, Speaks, SpeaksOn, SpeaksOut, done, rest_of}
+use Rattle.host_trace.specs.Footings.{Expects, Hears, IsDone, footing_at, footing_in, footing_of, rank}
 use Rattle.host_trace.specs.Tellings.{IsTold, told_answer}
 use Rattle.host_trace.proofs.Leading.{leads_as, leads_none, leads_then, leads_told}
-use Rattle.host_trace.proofs.Requests.{ends_expects, takes_expects}
 use Rattle.host_trace.proofs.Telling.{answer_is}
 
 -- ---- what comes next

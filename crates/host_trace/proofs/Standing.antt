@@ -1,22 +1,19 @@
 -- How a worker stands, by the trace that tells how far the job has come. Here t is the job on its way, p a worker, c a simulation and s a trace.
-use Rattle.std.proofs.Common.{◌≡◌, ℕ, ◌+◌, ◌-◌, ◌^◌, ◌<◌, ◌≤◌, max, Bool, true, false, IsTrue, List, [], ◌∷◌, length, get_or, Option, Some, None, is_some, refl, ap, sym, subst, ◌∙◌, arith}
+use Rattle.std.proofs.Common.{◌≡◌, ℕ, ◌+◌, ◌-◌, ◌^◌, ◌<◌, ◌≤◌, max, true, false, IsTrue, List, [], ◌∷◌, length, get_or, Option, Some, None, is_some, refl, ap, sym, subst, ◌∙◌, arith}
 use Rattle.std.specs.Option.{IsSomeAnd, MatchOption}
 use Rattle.std.proofs.lemmas.Bool.Decides.{nat_tests}
 use Rattle.std.proofs.lemmas.List.Elements.{All-from_recursion}
 use Rattle.stm_core.specs.Machine.{after_due, next_of, over, standing}
 use Rattle.stm_core.specs.declared.next.Next.{Next}
-use Rattle.stm_model.specs.Attempt.{Attempt, Due, Ended, Stage, flies_at}
-use Rattle.stm_model.specs.World.{IsCaller, Terms}
+use Rattle.stm_model.specs.Attempt.{Attempt, Due, Stage, flies_at}
+use Rattle.stm_model.specs.World.{IsCaller}
 use Rattle.stm_model.specs.declared.ending.Ending.{Ending}
-use Rattle.stm_model.specs.declared.law.Free.{Free}
 use Rattle.stm_model.specs.declared.settings.Settings.{Settings}
-use Rattle.ledger_model.specs.declared.job.Job.{Job}
-use Rattle.ledger_model.specs.declared.listing.Row.{Row}
 use Rattle.ledger_model.specs.Fits.{WorkerFits, places}
 use Rattle.ledger_model.specs.Limits.{most_scripts}
 use Rattle.ledger_model.specs.Replays.{scripts_of, settled_by}
 use Rattle.ledger_model.specs.Traced.{Trace, attempt_in as traced_attempt, has_left, is_flying, is_parked, retried_at}
-use Rattle.world_run.specs.Simulation.{Simulation, IsOver, attempt_in, terms_in}
+use Rattle.world_run.specs.Simulation.{IsOver, attempt_in, terms_in}
 use Rattle.host_trace.specs.declared.flight.Flight.{Flight}
 use Rattle.host_trace.specs.declared.trace.Tracing.{Tracing}
 use Rattle.host_trace.specs.declared.worker.Worker.{Worker}

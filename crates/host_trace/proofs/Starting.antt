@@ -1,9 +1,9 @@
 -- A job from its start to its listing. Here t is the job on its way, p a worker and s a trace.
-use Rattle.std.proofs.Common.{◌≡◌, ℕ, ◌-◌, ◌<◌, ◌≤◌, ◌^◌, max, List, [], length, get_or, Option, Some, None, refl, ap, sym, subst, ◌∙◌, arith, Bor}
+use Rattle.std.proofs.Common.{◌≡◌, ℕ, ◌-◌, max, List, [], length, Option, refl, ap, sym, subst, ◌∙◌, arith, Bor}
 use Rattle.std.specs.List.{All}
 use Rattle.std.specs.Option.{MatchOption}
 use Rattle.stm_model.specs.Attempt.{Attempt, no_attempt}
-use Rattle.stm_model.specs.World.{IsCaller, Terms, World, opened}
+use Rattle.stm_model.specs.World.{IsCaller, Terms, opened}
 use Rattle.stm_model.specs.declared.settings.Settings.{Settings}
 use Rattle.ledger_model.specs.declared.job.Job.{Job}
 use Rattle.ledger_model.specs.declared.listing.Listing.{Listing}

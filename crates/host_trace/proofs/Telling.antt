@@ -1,14 +1,12 @@
 -- What an attempt tells by what it does next.
-use Rattle.std.proofs.Common.{◌≡◌, ◌⊎◌, inl, inr, ℕ, Bool, true, false, List, [], ◌∷◌, ◌++◌, length, Option, Some, None, IsSome, IsTrue, IsFalse, ap, sym, ◌∙◌, refl, subst, append-nil, arith, ◌<◌}
+use Rattle.std.proofs.Common.{◌≡◌, true, false, List, [], ◌∷◌, ◌++◌, length, Option, Some, None, IsSome, IsFalse, ap, sym, ◌∙◌, refl, subst, append-nil, arith, ◌<◌}
 use Rattle.stm_core.specs.declared.next.Next.{Next}
-use Rattle.stm_core.specs.declared.next.Next.TheVariants.{Before, Reply, Ring, Run}
-use Rattle.stm_core.specs.declared.next.Reply.TheVariants as reply
-use Rattle.stm_core.specs.Machine.{after_due, made, next_of, over, standing}
-use Rattle.stm_model.specs.Accesses.{access_of, next, next_at, packed, unless_due}
+use Rattle.stm_core.specs.declared.next.Next.TheVariants.{Ring, Run}
+use Rattle.stm_core.specs.Machine.{after_due, next_of, over, standing}
+use Rattle.stm_model.specs.Accesses.{access_of, next, next_at, unless_due}
 use Rattle.stm_model.specs.Attempt.{Attempt, Due, Ended, Late, Ready, Ring as RingOf, Run as RunOf, Stage, Stopped, cause_at}
 use Rattle.stm_model.specs.Handlers.{Handlers}
 use Rattle.stm_model.specs.Moves.{Does, did_first, moved}
-use Rattle.stm_model.specs.declared.cause.Cause.{Cause}
 use Rattle.stm_model.specs.declared.cause.Cause.TheVariants.{Memory}
 use Rattle.stm_model.specs.declared.ending.Ending.{Ending}
 use Rattle.ledger_model.specs.Traced.{answer_at}

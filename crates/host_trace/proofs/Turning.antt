@@ -1,5 +1,5 @@
 -- What a turn of one worker makes of a job on its way. Here t is the job on its way, p the worker, c and d are simulations, before and after, and s and u are traces.
-use Rattle.std.proofs.Common.{◌≡◌, ◌≢◌, inl, inr, ℕ, ◌-◌, ◌<◌, ◌≤◌, Bool, true, false, nat_lt, IsTrue, List, [], ◌∷◌, length, get_or, set, Option, Some, None, IsSome, refl, ap, sym, subst, ◌∙◌, arith}
+use Rattle.std.proofs.Common.{◌≡◌, ◌≢◌, inl, inr, ℕ, ◌-◌, ◌<◌, nat_lt, List, length, get_or, set, Option, Some, None, IsSome, refl, ap, sym, subst, ◌∙◌, arith}
 use Rattle.std.specs.Option.{MatchOption}
 use Rattle.std.proofs.lemmas.Bool.{cases_eq}
 use Rattle.std.proofs.lemmas.List.{get_or-set_other, get_or-set_same, length-set}
@@ -11,17 +11,16 @@ use Rattle.stm_model.specs.declared.law.Free.{Free}
 use Rattle.stm_model.specs.declared.settings.Settings.{Settings}
 use Rattle.ledger_model.specs.declared.job.Job.{Job}
 use Rattle.ledger_model.specs.declared.listing.Row.{Row}
-use Rattle.ledger_model.specs.Replays.{rows_of, scripts_of, settled_by}
-use Rattle.ledger_model.specs.Traced.{Progress, Trace, access, attempt_in as traced_attempt, has_left}
+use Rattle.ledger_model.specs.Replays.{scripts_of, settled_by}
+use Rattle.ledger_model.specs.Traced.{Progress, Trace, access}
 use Rattle.world_run.specs.Simulation.{Simulation, HasSameTerms, IsOver, attempt_in, latest, machine_at, terms_in}
 use Rattle.world_run.proofs.Seats.{caller_then}
 use Rattle.host_trace.specs.declared.flight.Flight.{Flight}
 use Rattle.host_trace.specs.declared.trace.Tracing.{Tracing}
 use Rattle.host_trace.specs.declared.worker.Worker.{Worker}
-use Rattle.host_trace.specs.Flights.{AwaitsIn, Flies, ShowsWorld, rest_of}
-use Rattle.host_trace.specs.Footings.{Expects}
+use Rattle.host_trace.specs.Flights.{ShowsWorld}
 use Rattle.host_trace.specs.Tellings.{IsTold}
-use Rattle.host_trace.specs.Tracings.{IsFlight, IsWorker, Lists, Traces, TracesOn, Works, WorksOn, worker_at}
+use Rattle.host_trace.specs.Tracings.{IsFlight, IsWorker, Traces, TracesOn, Works, WorksOn, worker_at}
 use Rattle.host_trace.proofs.Numbers.{Spares, access_spares}
 use Rattle.host_trace.proofs.Standing.{caller, works_there}
 

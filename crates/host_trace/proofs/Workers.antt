@@ -1,5 +1,5 @@
 -- What a turn makes of a worker. Here p is the worker, c and d are simulations, before and after, and s is a trace.
-use Rattle.std.proofs.Common.{◌≡◌, ◌≢◌, ℕ, suc, ◌+◌, ◌<◌, ◌^◌, Bool, true, false, if◌then◌else◌, nat_lt, IsTrue, List, [], ◌∷◌, length, Option, Some, None, IsSome, refl, ap, sym, subst, ◌∙◌, arith}
+use Rattle.std.proofs.Common.{◌≡◌, ℕ, suc, ◌+◌, Bool, true, false, if◌then◌else◌, List, [], ◌∷◌, length, Option, Some, None, IsSome, refl, ap, sym, subst, ◌∙◌, arith}
 use Rattle.opacity.proofs.Places.{replaced_here}
 use Rattle.stm_model.specs.Accesses.{next, next_at, unless_due}
 use Rattle.stm_model.specs.Attempt.{Attempt, Due, Ended, Stage, flies_at}
@@ -17,9 +17,9 @@ use Rattle.ledger_model.specs.declared.script.Script.{Script}
 use Rattle.ledger_model.specs.Allowed.{IsAllowed, first_footing}
 use Rattle.ledger_model.specs.Replays.{block_of, rolled_of, settled_by}
 use Rattle.ledger_model.specs.Talk.{talk}
-use Rattle.ledger_model.specs.Traced.{Progress, Trace, access, attempt_in as traced_attempt, begins, ended_with, ends, fresh, has_left, rolled_with, with_rolled}
+use Rattle.ledger_model.specs.Traced.{Progress, Trace, access, attempt_in as traced_attempt, begins, ended_with, ends, fresh, rolled_with, with_rolled}
 use Rattle.script_cursor.specs.Cursors.{after, talk_of}
-use Rattle.world_run.specs.Simulation.{Simulation, Happens, IsOver, attempt_in, machine_at, terms_in}
+use Rattle.world_run.specs.Simulation.{Simulation, Happens, attempt_in, machine_at, terms_in}
 use Rattle.world_run.proofs.Seats.{caller_then}
 use Rattle.host_trace.specs.declared.flight.Flight.{Flight}
 use Rattle.host_trace.specs.declared.worker.Worker.{Worker}
@@ -28,7 +28,7 @@ use Rattle.host_trace.specs.Footings.{footing_at}
 use Rattle.host_trace.specs.Tellings.{IsTold}
 use Rattle.host_trace.specs.Tracings.{BeginsOn, HasSaid, IsFlight, Lists, ListsOn, Works, WorksOn}
 use Rattle.host_trace.proofs.Leading.{attempt_moved}
-use Rattle.host_trace.proofs.Others.{Stays, flown_stays}
+use Rattle.host_trace.proofs.Others.{flown_stays}
 
 -- ---- how an attempt ends
 

@@ -1,5 +1,5 @@
 -- Private: what an attempt tells by what it does next, and what it has said.
-use Rattle.std.specs.Prelude.{◌≡◌, ℕ, Bool, true, false, List, [], ◌∷◌, reverse, Option, Some, None}
+use Rattle.std.specs.Prelude.{◌≡◌, ℕ, Bool, true, false, [], ◌∷◌, reverse, Option, Some, None}
 use Rattle.stm_core.specs.declared.next.Next.{Next}
 use Rattle.stm_core.specs.declared.next.Next.TheVariants.{Before, Reply, Ring, Run}
 use Rattle.stm_core.specs.declared.next.Reply.TheVariants as reply

@@ -1,5 +1,5 @@
 -- Private: a job on its way beside a trace. Here t is a job on its way, p a worker, c and d are simulations, before and after, and s is a trace.
-use Rattle.std.specs.Prelude.{◌≡◌, ℕ, suc, ◌-◌, ◌<◌, ◌≤◌, Bool, not, if◌then◌else◌, IsTrue, MatchOption, List, [], length, map, slice_index_or, Option, None}
+use Rattle.std.specs.Prelude.{◌≡◌, ℕ, suc, ◌-◌, ◌<◌, ◌≤◌, Bool, not, if◌then◌else◌, IsTrue, MatchOption, List, [], length, map, slice_index_or, None}
 use Rattle.std.specs.List.{range_with_len}
 use Rattle.stm_model.specs.declared.law.Free.{Free}
 use Rattle.stm_model.specs.declared.settings.Settings.{Settings}

@@ -31,7 +31,7 @@ use Rattle.ledger_model.specs.Contents.{opening_contents}
 use Rattle.ledger_model.specs.Fits.{ScriptFits, WorkerFits, places}
 use Rattle.ledger_model.specs.Replays.{HasRetried, NamesScript, TellsResult, scripts_of, settled_by}
 use Rattle.ledger_model.specs.Report.{has_text}
-use Rattle.ledger_model.specs.Run.{Kept, Failed, Retried, Outcome, statement_count}
+use Rattle.ledger_model.specs.Run.{Kept, Failed, Outcome, statement_count}
 use Rattle.ledger_model.specs.Settle.{Commits, Fails, OnlyReads, Spends, settle}
 use Rattle.ledger_model.specs.Traced.{MayBeTraced, Trace, attempt_in, ended_with, ends, is_flying, rolled_with, terms_of_job, with_rolled, with_row}
 use Rattle.ledger_model.proofs.Asked.{script_is_its_run}

@@ -1,4 +1,4 @@
-use Rattle.std.proofs.Common.{◌≡◌, ℕ, ◌≤◌, List, max, length, arith}
+use Rattle.std.proofs.Common.{◌≡◌, ℕ, List, max, length, arith}
 use Rattle.stm_model.specs.World.{IsCaller}
 use Rattle.opacity.proofs.Runs.{safe_opaque}
 use Rattle.ledger_model.specs.Traced.{onward, opening_trace, terms_of_job, turns}

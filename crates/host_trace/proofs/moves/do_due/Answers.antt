@@ -1,10 +1,8 @@
-use Rattle.std.proofs.Common.{◌≡◌, ◌≤◌, ◌<◌, ◌++◌, true, false, IsFalse, Option, Some, ap, sym, ◌∙◌, arith}
+use Rattle.std.proofs.Common.{◌≡◌, ◌<◌, ◌++◌, true, false, Option, ap, sym, ◌∙◌, arith}
 use Rattle.stm_core.specs.declared.next.Next.{Next}
 use Rattle.stm_core.specs.Machine.{next_of}
-use Rattle.ledger_model.specs.Traced.{due_done}
-use Rattle.world_run.specs.Simulation.{attempt_in, left_of, replies}
+use Rattle.world_run.specs.Simulation.{attempt_in, left_of}
 use Rattle.world_run.proofs.Seats.{caller_then}
-use Rattle.host_trace.specs.Flights.{Follows}
 use Rattle.host_trace.specs.Tellings.{tells_due, told_run}
 use Rattle.host_trace.proofs.Dues.{due_leads, due_over, due_stays, stays_on}
 use Rattle.host_trace.proofs.Leading.{leads_on}

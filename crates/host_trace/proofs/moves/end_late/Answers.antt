@@ -1,4 +1,3 @@
-use Rattle.std.proofs.Common.{◌≡◌, ap, sym, ◌∙◌}
 use Rattle.std.proofs.lemmas.Result.{on_ok_weaker}
 use Rattle.world_run.specs.Simulation.{attempt_in}
 use Rattle.host_trace.proofs.Asking.{ends_done, ends_leads}

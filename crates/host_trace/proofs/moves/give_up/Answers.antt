@@ -1,6 +1,5 @@
-use Rattle.std.proofs.Common.{◌≡◌, Option, Some, None, inl, inr, refl, ap, sym, ◌∙◌}
+use Rattle.std.proofs.Common.{◌≡◌, Some, None, inl, inr, refl, ap, sym, ◌∙◌}
 use Rattle.stm_model.specs.Attempt.{cause_at}
-use Rattle.stm_model.specs.declared.cause.Cause.{Cause}
 use Rattle.world_run.specs.Simulation.{attempt_in}
 use Rattle.host_trace.specs.Tellings.{told_refusal}
 use Rattle.host_trace.proofs.Asking.{gives_leads, gives_nothing, gives_rolls, may_give_up}

@@ -1,4 +1,4 @@
-use Rattle.std.proofs.Common.{◌≡◌, IsSome, Option, ap, sym, ◌∙◌, subst}
+use Rattle.std.proofs.Common.{IsSome, Option, ap, ◌∙◌, subst}
 use Rattle.stm_core.specs.declared.next.Next.{Next}
 use Rattle.world_run.specs.Simulation.{attempt_in}
 use Rattle.world_run.proofs.Seats.{caller_then}

@@ -1,4 +1,3 @@
-use Rattle.std.proofs.Common.{refl, rules}
 use Rattle.host_trace.proofs.flight.Flight.new.Goals as goal
 
 pub returns-clause-said : goal.returns-clause-said

@@ -1,10 +1,8 @@
-use Rattle.std.proofs.Common.{◌≡◌, ℕ, Bool, IsFalse, IsTrue, MatchOption, Option, Some, refl, ap, sym, ◌∙◌, subst}
+use Rattle.std.proofs.Common.{◌≡◌, ℕ, IsFalse, IsTrue, MatchOption, Option, refl, ap, sym, ◌∙◌, subst}
 use Rattle.std.proofs.lemmas.Result.{IfOk-weaker}
-use Rattle.stm_core.specs.declared.next.Next.{Next}
-use Rattle.stm_core.specs.Machine.{next_of}
 use Rattle.ledger_model.specs.Talk.{Talk, Asks, Ends}
 use Rattle.ledger_model.specs.Traced.{requested, returned}
-use Rattle.script_cursor.specs.Cursors.{coming_of, is_over, talk_of}
+use Rattle.script_cursor.specs.Cursors.{talk_of}
 use Rattle.world_run.specs.Simulation.{attempt_in}
 use Rattle.world_run.proofs.Seats.{caller_then}
 use Rattle.host_trace.specs.declared.flight.Flight.{Flight}

@@ -1,4 +1,3 @@
-use Rattle.std.proofs.Common.{sym, ◌∙◌}
 use Rattle.host_trace.proofs.Onward.{goes_more, goes_none, tracing_then}
 use Rattle.host_trace.proofs.trace.Tracing.finish.Goals as goal
 

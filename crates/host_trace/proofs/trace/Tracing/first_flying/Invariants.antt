@@ -1,4 +1,4 @@
-use Rattle.std.proofs.Common.{◌≡◌, ◌≤◌, length}
+use Rattle.std.proofs.Common.{◌≡◌, length}
 use Rattle.std.specs.List.{find}
 use Rattle.ledger_model.specs.Traced.{Trace, is_flying, workers_of}
 use Rattle.host_trace.specs.Tracings.{Traces}

@@ -1,8 +1,6 @@
-use Rattle.std.proofs.Common.{sym, ◌∙◌, subst}
+use Rattle.std.proofs.Common.{sym, ◌∙◌}
 use Rattle.std.proofs.lemmas.Result.{on_ok_weaker}
-use Rattle.ledger_model.specs.declared.job.Job.{Job}
 use Rattle.ledger_model.specs.Traced.{access, begins, turn}
-use Rattle.host_trace.specs.Tracings.{IsWorker}
 use Rattle.host_trace.proofs.Beginning.{begun_flies, flies_alike, traces_as, traces_on, turn_beginning, turn_flying}
 use Rattle.host_trace.proofs.trace.Tracing.turn.Goals as goal
 
