@@ -1,0 +1,9 @@
+pub mod Knowledge
+pub mod Seats
+pub mod Parts
+pub mod Seen
+pub mod Performs
+pub mod Rule
+pub mod Keyed
+pub mod Limits
+pub mod Calls
