@@ -3,12 +3,11 @@
 //! CANONICAL, or TEXT alone where that is canonical.
 #![tactic(auto)]
 
-mod row;
 mod told;
 
-use row::text_of;
 use std::alloc::{AllocError, Global};
 use std::{fs, io};
+use text_rows::{cut, is_row, text_of};
 use told::{printed, program_tells, reader_tells};
 
 fn main(rt: HostRuntime) -> io::Result<()> {
@@ -24,13 +23,12 @@ enum Kind {
     Job,
 }
 
-// Lines that are empty or begin with `//` are no rows.
 fn try_rows(rt: &HostRuntime, kind: Kind) -> io::Result<()> {
     let file = file_of(kind);
     let text = fs::read_to_string(rt, file)?;
     let mut count = 0_u64;
     for row in text.as_str().lines() {
-        if row.is_empty() || row.starts_with("//") {
+        if !is_row(row) {
             continue;
         }
         count = count.saturating_add(1);
@@ -69,9 +67,4 @@ fn is_job(alloc: Global, row: &str) -> Result<bool, AllocError> {
     let text = text_of(alloc, given)?;
     let expected = text_of(alloc, canonical)?;
     Ok(printed(alloc, &text)?.as_slice() == expected.as_slice())
-}
-
-// The first word of a row, and what is behind it.
-fn cut(row: &str) -> (&str, &str) {
-    row.split_once(' ').unwrap_or((row, ""))
 }

@@ -1,10 +1,20 @@
-//! Texts as rows have them: ` / ` stands between two lines, `(3: 1)` for three times what is behind the colon, and
-//! `\x09` for the byte 9.
+//! Rows, and texts as rows have them.
 
 use std::alloc::{AllocError, Global};
 
-/// The lines, each with its line feed; none where nothing is written.
-pub(crate) fn text_of(alloc: Global, row: &str) -> Result<Vec<u8>, AllocError> {
+/// Lines that are empty or begin with `//` are no rows.
+pub fn is_row(line: &str) -> bool {
+    !line.is_empty() && !line.starts_with("//")
+}
+
+/// The first word of a row, and what is behind it.
+pub fn cut(row: &str) -> (&str, &str) {
+    row.split_once(' ').unwrap_or((row, ""))
+}
+
+/// The lines of a text, each with its line feed; none where nothing is written. ` / ` stands between two
+/// lines, `(3: 1)` for three times what is behind the colon, and `\x09` for the byte 9.
+pub fn text_of(alloc: Global, row: &str) -> Result<Vec<u8>, AllocError> {
     let mut text = Vec::new(alloc);
     if row.is_empty() {
         return Ok(text);
