@@ -24,38 +24,55 @@ impl Compared {
     pub(crate) fn new(rt: &impl Abort, alloc: Global, plot: Plot) -> Result<Compared, Fail>
         ensures { IfOk result (λ compared. IsTraceable compared.job) }
     {
-        let mut text = Vec::new(alloc);
-        for part in lines_of(plot).split(" | ") {
-            text.extend_from_slice(&text_of(alloc, part)?)?;
-        }
-        Ok(Compared {
-            job: job_of(rt, alloc, &text)?,
-            known: Known::new(alloc, plot),
-        })
+        let job = job_of(rt, alloc, &text_of_parts(alloc, lines_of(plot))?)?;
+        let known = Known {
+            plot,
+            scripts: script_count(&job),
+            entries: Vec::new(alloc),
+        };
+        Ok(Compared { job, known })
     }
 
-    /// What comes of the job under these steps, which is what its scripts do alone.
+    /// What comes of the job under these steps is what its scripts do alone.
     pub(crate) fn run(
         &mut self,
         rt: &impl Abort,
         alloc: Global,
         steps: Vec<u16>,
-    ) -> Result<Listing, Fail>
+    ) -> Result<(), Fail>
         requires { IsTraceable self.old.job }
         ensures { IsTraceable self.new.job }
     {
         let taken = set_steps(&mut self.job, steps);
         assert!(rt; taken);
         let listing = traced(alloc, &self.job)?;
-        self.known.compare(rt, alloc, &listing)?;
-        Ok(listing)
+        self.known.compare(rt, alloc, &listing)
     }
+}
+
+// The text whose parts stand between ` | `.
+fn text_of_parts(alloc: Global, lines: &str) -> Result<Vec<u8>, AllocError> {
+    let mut text = Vec::new(alloc);
+    for part in lines.split(" | ") {
+        text.extend_from_slice(&text_of(alloc, part)?)?;
+    }
+    Ok(text)
+}
+
+fn script_count(job: &Job) -> usize {
+    let mut count = 0usize;
+    for scripts in job.workers.as_slice() {
+        count = count.wrapping_add(scripts.len());
+    }
+    count
 }
 
 // What scripts of a job did alone, in each order that has come up.
 #[derive(Drop)]
 struct Known {
     plot: Plot,
+    /// How many the job has.
+    scripts: usize,
     entries: Vec<Alone>,
 }
 
@@ -66,16 +83,10 @@ struct Alone {
 }
 
 impl Known {
-    fn new(alloc: Global, plot: Plot) -> Known {
-        Known {
-            plot,
-            entries: Vec::new(alloc),
-        }
-    }
-
-    // The listing says what its scripts do alone in its order. What a rolled attempt has printed is what its
-    // script prints first behind the writers before it.
+    // The listing has all scripts, and says what they do alone in its order. What a rolled attempt has printed is
+    // what its script prints first behind the writers before it.
     fn compare(&mut self, rt: &impl Abort, alloc: Global, listing: &Listing) -> Result<(), Fail> {
+        assert!(rt; listing.rows.len() == self.scripts);
         let alone = self.alone(rt, alloc, order_of(alloc, listing)?)?;
         assert!(rt; is_alike(listing, alone));
         for rolled in listing.rolled.as_slice() {
@@ -95,8 +106,7 @@ impl Known {
         let index = match self.place_of(&order) {
             Some(index) => index,
             None => {
-                let text = lines_in_order(alloc, lines_of(self.plot), &order)?;
-                let listing = traced(alloc, &job_of(rt, alloc, &text)?)?;
+                let listing = listing_in_order(rt, alloc, self.plot, &order)?;
                 self.entries.push(Alone { order, listing })?;
                 self.entries.len() - 1
             }
@@ -112,6 +122,18 @@ impl Known {
             .iter()
             .position(|alone| alone.order.as_slice() == order)
     }
+}
+
+// What comes of a job whose only worker has these scripts.
+fn listing_in_order(
+    rt: &impl Abort,
+    alloc: Global,
+    plot: Plot,
+    order: &[Name],
+) -> Result<Listing, Fail> {
+    let text = lines_in_order(alloc, lines_of(plot), order)?;
+    let job = job_of(rt, alloc, &text)?;
+    Ok(traced(alloc, &job)?)
 }
 
 // The listed scripts.

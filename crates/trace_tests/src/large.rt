@@ -55,6 +55,14 @@ fn put_comment(text: &mut Vec<u8>, bytes: usize) -> Result<(), AllocError> {
     Ok(())
 }
 
+// Two workers with the most scripts each, the most steps, and the most bytes.
+fn longest_text(alloc: Global) -> Result<Vec<u8>, AllocError> {
+    let mut text = many_adds(alloc, 2, 4_096)?;
+    put_turns(&mut text, alloc, MOST_STEPS / 64)?;
+    put_comment(&mut text, MOST_BYTES)?;
+    Ok(text)
+}
+
 #[test]
 fn the_most_scripts_are_run(rt: HostRuntime) -> Result<(), Fail> {
     let text = many_adds(rt.alloc(), 16, 4_096)?;
@@ -65,26 +73,38 @@ fn the_most_scripts_are_run(rt: HostRuntime) -> Result<(), Fail> {
 
 #[test]
 fn the_longest_text_takes_the_most_steps(rt: HostRuntime) -> Result<(), Fail> {
-    let mut text = many_adds(rt.alloc(), 2, 4_096)?;
-    put_turns(&mut text, rt.alloc(), MOST_STEPS / 64)?;
-    put_comment(&mut text, MOST_BYTES)?;
+    let text = longest_text(rt.alloc())?;
     let listing = listing_of(&rt, rt.alloc(), &text)?;
     assert!(rt; has_added(&listing, 8_192));
     Ok(())
 }
 
-#[test]
-fn a_script_reads_each_of_the_most_references(rt: HostRuntime) -> Result<(), Fail> {
-    let alloc = rt.alloc();
+// A script that reads each of the most references, the last of which holds 7, and prints that.
+fn many_reads(alloc: Global) -> Result<Vec<u8>, AllocError> {
     let mut text = Vec::from_slice(alloc, b"stm 1\nrefs 65536\nref 65535 7\nworker\nscript\n")?;
     for cell in 0..65_536_u32 {
-        let line = format!(in alloc; "read r0 {cell}\n")?;
-        text.extend_from_slice(line.as_bytes())?;
+        put_read(&mut text, alloc, cell)?;
     }
     text.extend_from_slice(b"print r0\nend\n")?;
-    let listing = listing_of(&rt, alloc, &text)?;
-    assert_eq!(rt; listing.rows.len(), 1);
-    let row = listing.rows.as_slice().first();
-    assert!(rt; row.is_some_and(|row| row.prints.as_slice() == [7].as_slice()));
+    Ok(text)
+}
+
+fn put_read(text: &mut Vec<u8>, alloc: Global, cell: u32) -> Result<(), AllocError> {
+    let line = format!(in alloc; "read r0 {cell}\n")?;
+    text.extend_from_slice(line.as_bytes())
+}
+
+fn prints_seven(listing: &Listing) -> bool {
+    match listing.rows.as_slice() {
+        [row] => matches!(row.prints.as_slice(), [7]),
+        _ => false,
+    }
+}
+
+#[test]
+fn a_script_reads_each_of_the_most_references(rt: HostRuntime) -> Result<(), Fail> {
+    let text = many_reads(rt.alloc())?;
+    let listing = listing_of(&rt, rt.alloc(), &text)?;
+    assert!(rt; prints_seven(&listing));
     Ok(())
 }
