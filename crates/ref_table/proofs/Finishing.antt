@@ -1,5 +1,5 @@
 -- The values that are read of a closed table, one after another.
-use Rattle.std.proofs.Common.{◌≡◌, ℕ, ◌+◌, ◌-◌, ◌*◌, ◌/◌, ◌<◌, List, [], ◌∷◌, ◌++◌, length, take, ap, sym, ◌∙◌, arith, length-append}
+use Rattle.std.proofs.Common.{◌≡◌, ℕ, ◌+◌, ◌*◌, ◌<◌, List, [], ◌∷◌, ◌++◌, length, take, ap, sym, ◌∙◌, arith, length-append}
 use mathlib.Core.Option.{some}
 use lib.ListN.{get_elem?}
 use Rattle.stm_model.specs.History.{Entry, state}
@@ -12,10 +12,6 @@ use Rattle.ref_table.specs.Knowledge.{Knowledge}
 use Rattle.ref_table.specs.Parts.{gathered_of}
 use Rattle.ref_table.specs.Rule.{Keeps}
 use Rattle.ref_table.proofs.Closing.{EndsAs, closes, value_read, values_more, values_whole}
-
--- how many cells a table of so many words has
-pub cells_of : (count callers cells : ℕ) → count ≡ callers + 1 + 2 * cells → (count + 1 - (callers + 2)) / 2 ≡ cells
-cells_of count callers cells is = omega arith
 
 pub one_longer : (values then : List ℕ) (n cell : ℕ) → then ≡ values ++ n ∷ [] → length values ≡ cell → length then ≡ cell + 1
 one_longer values then n cell is so = ap length is ∙ (length-append values (n ∷ []) ∙ ap (λ (m : ℕ). m + 1) so)

@@ -1,4 +1,4 @@
--- How what a seat knows is cut in two, and how that of two seats is joined.
+-- Private: how what a seat knows is cut in two, and how that of two seats is joined.
 use Rattle.std.specs.Prelude.{ℕ, ◌+◌, List, [], ◌∷◌, length}
 use Rattle.meta_word.specs.declared.policy.Policy.TheVariants.{GiveWay}
 use Rattle.stm_model.specs.declared.settings.Settings.{Settings}

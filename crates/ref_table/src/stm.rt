@@ -247,7 +247,7 @@ impl<L: Law> Stm<L> {
         ensures err { IfErr result (λ both. (both.0 ≡ self) × (both.1 ≡ maker)) }
     {
         let first = self.settings.callers as usize + 2;
-        let cells = (self.table.word_count() + 1 - first) / 2;
+        let cells = self.cells as usize;
         let Ok(mut values) = Vec::with_capacity(self.alloc, cells) else {
             return Err((self, maker));
         };
