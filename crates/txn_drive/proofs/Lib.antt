@@ -1,0 +1,14 @@
+pub mod Asking
+pub mod Beginning
+pub mod Ends
+pub mod Here
+pub mod Keeping
+pub mod Led
+pub mod Onward
+pub mod Owing
+pub mod Resting
+pub mod Settling
+pub mod Stepped
+pub mod Taking
+pub mod Told
+pub mod Turning

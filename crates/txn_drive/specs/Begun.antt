@@ -1,0 +1,24 @@
+-- The begin of an attempt.
+use Rattle.std.specs.Prelude.{◌≡◌, ℕ, suc, List, length, None}
+use Rattle.meta_word.specs.declared.status.Phase.TheVariants.{Active}
+use Rattle.ref_table.specs.Seats.{SeatState}
+use Rattle.stm_model.specs.Attempt.{Announce, Attempt, Ready, no_attempt}
+use Rattle.stm_model.specs.World.{Terms}
+use Rattle.stm_model.specs.declared.settings.Settings.{Settings}
+use Rattle.txn_drive.specs.Going.{SeesMore}
+use Rattle.txn_drive.specs.Standing.{IsOn}
+
+-- the caller's next attempt, before its first access
+abbrev pub first_of : SeatState → Settings → Attempt
+first_of seat settings = record (no_attempt seat.number settings) { serial = suc seat.view.attempt.serial; stage = Announce }
+
+-- the same once it has loaded the clock, and waits to be asked
+abbrev pub begun : SeatState → Settings → (prefix : ℕ) → Attempt
+begun seat settings prefix = record (first_of seat settings) { phase = Active; prefix = prefix; stage = Ready None }
+
+-- The caller's next attempt has begun: its status is stored, and it has loaded the clock.
+pub record IsBegun (lawful : List ℕ → Type 0) (may : List ℕ → List ℕ → Type 0) (terms : Terms) (settings : Settings) (before after : SeatState) (t : Attempt) : Type 0 where
+  pub is : t ≡ begun before settings t.prefix
+  pub on : IsOn lawful may terms after t
+  pub seat : SeesMore (suc before.view.attempt.serial) before after
+  pub since : after.view.since ≡ length before.seen

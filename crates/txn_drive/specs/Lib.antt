@@ -1,0 +1,7 @@
+pub mod Begun
+pub mod Calls
+pub mod Going
+pub mod Moment
+pub mod Paying
+pub mod Standing
+pub mod Stepping
