@@ -1,0 +1,5 @@
+pub mod Bodies
+pub mod Callers
+pub mod Flights
+pub mod Outcomes
+pub mod Turns
