@@ -191,15 +191,16 @@ abbrev pub IsPast : Stage → Type 0
 IsPast stage = IsClosing stage ⊎ IsLate stage
 
 -- It stands so, with these notes, writes and handlers.
-pub record Has (Stands : Stage → Type 0) (reads : List Note) (written : List Write) (hooked : Handlers) (t : Attempt) : Type 0 where
+pub record Has (Stands : Stage → Type 0) (reads : List Note) (written : List Write) (hooked : Handlers) (later : List ℕ) (t : Attempt) : Type 0 where
   pub stands : Stands t.stage
   pub notes : t.notes ≡ reads
   pub writes : t.now.writes ≡ written
   pub hooks : t.now.hooks ≡ hooked
+  pub laters : t.now.laters ≡ later
 
 -- It stands so, with those of another.
 abbrev pub HasOf : (Stage → Type 0) → Attempt → Attempt → Type 0
-HasOf Stands t u = Has Stands t.notes t.now.writes t.now.hooks u
+HasOf Stands t u = Has Stands t.notes t.now.writes t.now.hooks t.now.laters u
 
 -- It closes, and keeps these.
 abbrev pub Closes : Attempt → Attempt → Type 0
@@ -210,32 +211,33 @@ abbrev pub Passes : Attempt → Attempt → Type 0
 Passes t u = HasOf IsPast t u
 
 has : {Stands : Stage → Type 0} {t : Attempt} → Stands t.stage → HasOf Stands t t
-has stands = record { stands = stands; notes = refl; writes = refl; hooks = refl }
+has stands = record { stands = stands; notes = refl; writes = refl; hooks = refl; laters = refl }
 
 -- Who stands so after each answer does after all steps, with the same.
 module _ (Stands : Stage → Type 0) (answers : (t : Attempt) (answer : Answer) → Stands t.stage → HasOf Stands t (after t answer))
-    (reads : List Note) (written : List Write) (hooked : Handlers) where
-  has_then : (t u : Attempt) → Has Stands reads written hooked t → HasOf Stands t u → Has Stands reads written hooked u
+    (reads : List Note) (written : List Write) (hooked : Handlers) (later : List ℕ) where
+  has_then : (t u : Attempt) → Has Stands reads written hooked later t → HasOf Stands t u → Has Stands reads written hooked later u
   has_then t u first second = record {
     stands = second.stands;
     notes = second.notes ∙ first.notes;
     writes = second.writes ∙ first.writes;
     hooks = second.hooks ∙ first.hooks;
+    laters = second.laters ∙ first.laters;
   }
 
-  has_after : (t : Attempt) (answer : Answer) → Has Stands reads written hooked t → Has Stands reads written hooked (after t answer)
+  has_after : (t : Attempt) (answer : Answer) → Has Stands reads written hooked later t → Has Stands reads written hooked later (after t answer)
   has_after t answer from = has_then t (after t answer) from (answers t answer from.stands)
 
-  has_did : (t : Attempt) (due : List Due) → Has Stands reads written hooked t → Has Stands reads written hooked (did_first t due)
+  has_did : (t : Attempt) (due : List Due) → Has Stands reads written hooked later t → Has Stands reads written hooked later (did_first t due)
   has_did t [] from = from
-  has_did t (Run phase token ∷ dues) from = record { stands = from.stands; notes = from.notes; writes = from.writes; hooks = from.hooks }
-  has_did t (Ring cell ∷ dues) from = record { stands = from.stands; notes = from.notes; writes = from.writes; hooks = from.hooks }
+  has_did t (Run phase token ∷ dues) from = record { stands = from.stands; notes = from.notes; writes = from.writes; hooks = from.hooks; laters = from.laters }
+  has_did t (Ring cell ∷ dues) from = record { stands = from.stands; notes = from.notes; writes = from.writes; hooks = from.hooks; laters = from.laters }
 
-  has_led : (t : Attempt) (steps : List Step) → Has Stands reads written hooked t → Has Stands reads written hooked (led t steps)
-  has_led = over_steps (Has Stands reads written hooked) has_after has_did
+  has_led : (t : Attempt) (steps : List Step) → Has Stands reads written hooked later t → Has Stands reads written hooked later (led t steps)
+  has_led = over_steps (Has Stands reads written hooked later) has_after has_did
 
-if_closes : {reads : List Note} {written : List Write} {hooked : Handlers} (b : Bool) (t u : Attempt)
-    → Has IsClosing reads written hooked t → Has IsClosing reads written hooked u → Has IsClosing reads written hooked (if b then t else u)
+if_closes : {reads : List Note} {written : List Write} {hooked : Handlers} {later : List ℕ} (b : Bool) (t u : Attempt)
+    → Has IsClosing reads written hooked later t → Has IsClosing reads written hooked later u → Has IsClosing reads written hooked later (if b then t else u)
 if_closes true t u first second = first
 if_closes false t u first second = second
 
@@ -305,7 +307,7 @@ closes_after : (t : Attempt) (answer : Answer) → IsClosing t.stage → Closes 
 closes_after t answer closing = closes_at t t.stage answer refl closing
 
 pub closes_led : (t u : Attempt) (steps : List Step) → Closes t u → Closes t (led u steps)
-closes_led t = has_led IsClosing closes_after t.notes t.now.writes t.now.hooks
+closes_led t = has_led IsClosing closes_after t.notes t.now.writes t.now.hooks t.now.laters
 
 -- No answer moves a before-commit body that has its turn.
 late_at : (t : Attempt) (stage : Stage) (answer : Answer) → t.stage ≡ stage → IsLate stage → HasOf IsPast t (after_at t stage answer)
@@ -314,14 +316,14 @@ late_at t (Late token) answer is late = has (inr (rw is tt))
 late_at t stage answer is late = absurd late
 
 past_of : (t u : Attempt) → Closes t u → Passes t u
-past_of t u closes = record { stands = inl closes.stands; notes = closes.notes; writes = closes.writes; hooks = closes.hooks }
+past_of t u closes = record { stands = inl closes.stands; notes = closes.notes; writes = closes.writes; hooks = closes.hooks; laters = closes.laters }
 
 past_after : (t : Attempt) (answer : Answer) → IsPast t.stage → Passes t (after t answer)
 past_after t answer (inl closing) = past_of t _ (closes_after t answer closing)
 past_after t answer (inr late) = late_at t t.stage answer refl late
 
 pub past_led : (t u : Attempt) (steps : List Step) → Passes t u → Passes t (led u steps)
-past_led t = has_led IsPast past_after t.notes t.now.writes t.now.hooks
+past_led t = has_led IsPast past_after t.notes t.now.writes t.now.hooks t.now.laters
 
 -- ---- who meets what is owed
 

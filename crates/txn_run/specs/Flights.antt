@@ -37,12 +37,12 @@ pub record IsHere {S : Type 0} (stm : StmState S) (seat : SeatState) (flight : F
   pub table : flight.stm ≡ stm
   pub knows : flight.seat ≡ seat
 
--- It stands to its seat, waits to be asked or is over, was refused nothing but what cells refuse with, and no more levels are open than may be.
+-- It stands to its seat, waits to be asked or is over, was refused nothing but what cells refuse with, and unless it is over, no more levels are open than may be.
 pub record Stands (lawful : List ℕ → Type 0) (may : List ℕ → List ℕ → Type 0) (terms : Terms) (seat : SeatState) (t : Attempt) : Type 0 where
   pub on : IsOn lawful may terms seat t
   pub rests : Rests t
   pub refused : IfSome (cause_at t.stage) IsOfCells
-  pub deep : length t.saved ≤ deepest
+  pub deep : t.stage ≢ Ended → length t.saved ≤ deepest
 
 -- So it stands on this table, as it is kept.
 pub record IsFlying {S : Type 0} (lawful : List ℕ → Type 0) (may : List ℕ → List ℕ → Type 0) (stm : StmState S) (seat : SeatState) (running : Running) : Type 0 where

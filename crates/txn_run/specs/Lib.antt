@@ -1,5 +1,7 @@
 pub mod Bodies
 pub mod Callers
+pub mod Facts
 pub mod Flights
 pub mod Outcomes
 pub mod Turns
+pub mod Told

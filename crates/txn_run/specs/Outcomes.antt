@@ -83,7 +83,7 @@ pub record IsSpent {T : Type 0} (attempts : ℕ) (untouched : Type 0) (before af
   pub spent : (attempt_in before.seat).serial ≡ attempts
   pub ends : outcome ≡ with.Rolled (AttemptsEnd attempts) before.seat.view.clock
   pub same : after ≡ before
-  pub untouched : untouched
+  pub body : untouched
 
 -- One attempt was made and ended so, or there are no more.
 abbrev pub Concludes : {T : Type 0} → (T → List ℕ → Book → Type 0) → (Cause → List ℕ → Book → Type 0) → (List ℕ → Type 0) → (untouched : Type 0)

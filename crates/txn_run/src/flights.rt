@@ -14,6 +14,7 @@ ghost use Rattle.txn_drive.specs.Going.{Continues, IsAsked};
 ghost use Rattle.txn_drive.specs.Moment.{moment};
 ghost use Rattle.txn_drive.specs.Paying.{IsLed};
 ghost use Rattle.txn_drive.specs.Standing.{Rests};
+ghost use Rattle.txn_run.specs.Told.{told_by};
 
 use ref_table::{Lists, Seat, Stm};
 use std::alloc::Global;
@@ -66,7 +67,9 @@ impl<L: Law> Flight<L> {
     /// What is known of it.
     pub fn stands(&self)
         ensures { Stands (L.lawful self.now.stm.law) (L.may self.now.stm.law) (terms_in self.now.stm) self.now.seat self.now.attempt }
-    {}
+    {
+        let _running = &self.running;
+    }
 
     /// It is asked for something, and goes on until it waits to be asked again, or is over.
     pub fn ask<R: Bell, H: Hooks>(
@@ -111,11 +114,7 @@ impl<L: Law> Flight<L> {
     pub fn told(&self) -> Result<Option<u64>, Cause>
         ensures { result ≡ told_at self.now.attempt.stage }
     {
-        match self.running.next() {
-            Next::Reply(Reply::Value(value)) => Ok(Some(value)),
-            Next::Reply(Reply::Stopped(cause)) => Err(cause),
-            _ => Ok(None),
-        }
+        answer_of(self.running.next())
     }
 
     /// What comes next.
@@ -130,5 +129,16 @@ impl<L: Law> Flight<L> {
         ensures { shown result ≡ self.attempt }
     {
         self.running
+    }
+}
+
+// What an attempt that comes to this was answered by.
+fn answer_of(next: Next) -> Result<Option<u64>, Cause>
+    ensures { result ≡ told_by next }
+{
+    match next {
+        Next::Reply(Reply::Value(value)) => Ok(Some(value)),
+        Next::Reply(Reply::Stopped(cause)) => Err(cause),
+        _ => Ok(None),
     }
 }

@@ -2,4 +2,5 @@
 #![tactic(auto)]
 
 mod callers;
+mod cells;
 mod flights;
