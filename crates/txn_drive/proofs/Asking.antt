@@ -194,7 +194,7 @@ waits_step t (Finds answer) waits = ap (λ (due : List Due). found_unless_due t 
 waits_step t DoesDue waits = ap (did_first t) waits.nothing_due
 
 -- Who waits is led nowhere.
-waits_led : (t : Attempt) (steps : List Step) → AwaitsAsk t → led t steps ≡ t
+pub waits_led : (t : Attempt) (steps : List Step) → AwaitsAsk t → led t steps ≡ t
 waits_led t [] waits = refl
 waits_led t (step ∷ steps) waits =
     let same : stepped t step ≡ t = waits_step t step waits in

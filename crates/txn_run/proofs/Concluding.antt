@@ -1,5 +1,5 @@
 -- What an attempt that was made concludes with.
-use Rattle.std.proofs.Common.{◌≡◌, ◌≢◌, ℕ, suc, ◌+◌, ◌-◌, ◌<◌, ◌≤◌, ◌×◌, ◌⊎◌, List, [], length, Option, Some, None, refl, sym, ap, subst, ◌∙◌, inl, inr, ⊎_elim, arith}
+use Rattle.std.proofs.Common.{◌≡◌, ◌≢◌, ℕ, suc, ◌+◌, ◌-◌, ◌<◌, ◌≤◌, ◌⊎◌, List, [], length, Option, Some, None, refl, sym, ap, subst, ◌∙◌, inl, inr, ⊎_elim, arith}
 use Rattle.ref_table.specs.Seats.{SeatState, StmState, terms_in}
 use Rattle.ref_table.specs.Seen.{SafeSeat}
 use Rattle.stm_model.specs.Attempt.{Attempt}

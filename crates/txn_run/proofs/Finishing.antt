@@ -1,5 +1,5 @@
 -- What becomes of an attempt whose body is over, or whose before-commit body is.
-use Rattle.std.proofs.Common.{◌≡◌, ◌≢◌, ℕ, suc, ◌×◌, ◌⊎◌, drop, List, [], ◌∷◌, Option, Some, None, refl, sym, ap, subst, ◌∙◌, ⊎_elim, inl, inr}
+use Rattle.std.proofs.Common.{◌≡◌, ◌≢◌, ℕ, suc, ◌⊎◌, drop, List, [], ◌∷◌, Option, Some, None, refl, sym, ap, subst, ◌∙◌, ⊎_elim, inl, inr}
 use Rattle.stm_core.specs.Machine.{IsRefused}
 use Rattle.stm_model.specs.After.{at, rolled}
 use Rattle.stm_model.specs.Attempt.{Attempt, Ended, Late, Ready, Stage, Stopped, cause_at}

@@ -2,6 +2,6 @@ pub mod Answering
 pub mod Calling
 pub mod Concluding
 pub mod Finishing
-pub mod Going
 pub mod Known
 pub mod Standing
+pub mod Turning

@@ -1,5 +1,5 @@
 -- Private: what ghost fields of the cells of an attempt rest on.
-use Rattle.std.proofs.Common.{ℕ, List, Option, Some, None}
+use Rattle.std.proofs.Common.{ℕ, List, Option, Some, None, refl, ◌∙◌}
 use Rattle.std.specs.Prelude.{IfSome}
 use Rattle.std.specs.Coded.{Unit-prop}
 use denote.Struct.Props.{props}
@@ -7,6 +7,9 @@ use Rattle.stm_model.specs.declared.cause.Cause.{Cause}
 use Rattle.stm_model.specs.Heap.{AreWords}
 use Rattle.stm_model.specs.Refusing.{IsOfCells}
 use Rattle.stm_model.proofs.CellsLemmas.{IsOfCells-prop}
+use Rattle.txn_drive.specs.Moment.{Moment}
+use Rattle.txn_drive.proofs.Onward.{continues_on, continues_self}
+use Rattle.txn_run.specs.Flights.{Went}
 
 pub AreWords-prop : (heap : List ℕ) → IsProp (AreWords heap)
 AreWords-prop heap = hlevel props
@@ -14,3 +17,9 @@ AreWords-prop heap = hlevel props
 pub IsAnswer-prop : (cause : Option Cause) → IsProp (IfSome cause IsOfCells)
 IsAnswer-prop None = Unit-prop
 IsAnswer-prop (Some cause) = IsOfCells-prop cause
+
+pub went_self : (m : Moment) → Went m m
+went_self m = record { continues = continues_self m; turn = refl }
+
+pub went_on : (a b c : Moment) → Went a b → Went b c → Went a c
+went_on a b c one two = record { continues = continues_on a b c one.continues two.continues; turn = two.turn ∙ one.turn }

@@ -1,26 +1,23 @@
 -- Private: the turns of before-commit bodies, and how an attempt comes to its end.
-use Rattle.std.specs.Prelude.{◌≡◌, ◌≢◌, ℕ, ◌<◌, ◌-◌, ◌^◌, List, [], ◌∷◌, ◌++◌, drop, take, Some, None, Result, Ok, Err}
+use Rattle.std.specs.Prelude.{◌≡◌, ◌≢◌, ℕ, suc, ◌<◌, ◌-◌, ◌^◌, List, [], ◌∷◌, ◌++◌, drop, take, Some, None, Result, Ok, Err}
 use mathlib.Core.List.{IsPrefix}
 use Rattle.meta_word.specs.declared.status.Phase.TheVariants.{Active}
 use Rattle.stm_model.specs.After.{rolled}
 use Rattle.stm_model.specs.Attempt.{Attempt, Late, Stage, cause_at}
 use Rattle.stm_model.specs.CellsState.{Book}
 use Rattle.stm_model.specs.Moves.{AwaitsAsk, conclude}
-use Rattle.stm_model.specs.Owes.{IsPossible}
+use Rattle.stm_model.specs.Owes.{IsPossible, Owes}
 use Rattle.stm_model.specs.Refusing.{IsOfBody}
 use Rattle.stm_model.specs.Whole.{RunLate}
 use Rattle.stm_model.specs.declared.cause.Cause.{Cause}
 use Rattle.txn_drive.specs.Paying.{IsLed}
+use Rattle.txn_drive.specs.Standing.{IsOver}
 use Rattle.txn_run.specs.Outcomes.{IsWord}
 
 -- how many before-commit bodies may still have their turn
 unfoldable pub turns_left : Stage → ℕ → ℕ
 turns_left (Late token) turn = 2 ^ 64 - turn
 turns_left stage turn = 0
-
--- the token of the before-commit body that has its turn
-unfoldable pub token_at : Stage → (token : ℕ) → Type 0
-token_at stage token = stage ≡ Late token
 
 -- A before-commit body answered this cause, after all those before it ran well.
 pub record GaveLate {B : Type 0} (late_means : B → ℕ → List ℕ → Book → Result (Unit {0}) Cause → Book → B → Type 0)
@@ -40,6 +37,20 @@ pub data LeftLate {B : Type 0} (late_means : B → ℕ → List ℕ → Book →
   by_late : (tokens : List ℕ) (token : ℕ) (book : Book) (next : B) → RunLate late_means heap tokens body before book next → IsPrefix (tokens ++ token ∷ []) book.laters
       → late_leaves next token heap book left → LeftLate late_means late_leaves heap body before left
 
+-- A before-commit body has its turn, and so many before it have run well.
+pub record InTurn {B : Type 0} (late_means : B → ℕ → List ℕ → Book → Result (Unit {0}) Cause → Book → B → Type 0) (late_leaves : B → ℕ → List ℕ → Book → B → Type 0)
+    (lawful : List ℕ → Type 0) (may : List ℕ → List ℕ → Type 0) (size : ℕ) (body : B) (before : Book) (t : Attempt) (left : B) : Type 0 where
+  pub waits : AwaitsAsk t
+  pub done : ℕ
+  pub turn : t.turn ≡ suc done
+  pub token : ℕ
+  pub behind : List ℕ
+  pub stage : t.stage ≡ Late token
+  pub next : drop done t.now.laters ≡ token ∷ behind
+  pub owes : Owes lawful may size t.notes t.now.writes
+  pub ran : (heap : List ℕ) → IsPossible lawful size t.notes heap → RunLate late_means heap (take done t.now.laters) body before t.now left
+  pub leaves : (heap : List ℕ) → IsPossible lawful size t.notes heap → LeftLate late_means late_leaves heap body before left
+
 -- An attempt came to its end from this one, whose body, or whose before-commit body, was over then. On each heap that is possible by its notes, `ends` holds where all ran well, `gives` where one answered a cause of its own, and `leaves` in each case.
 pub data ComesToEnd (lawful : List ℕ → Type 0) (size : ℕ) (ends : List ℕ → Book → Type 0) (gives : Cause → List ℕ → Book → Type 0) (leaves : List ℕ → Type 0) (u : Attempt) : Type 0 where
   concluded : (t : Attempt) → AwaitsAsk t → t.phase ≡ Active → IsLed (conclude t t.now.writes) u
@@ -47,3 +58,10 @@ pub data ComesToEnd (lawful : List ℕ → Type 0) (size : ℕ) (ends : List ℕ
   rolled_back : (t : Attempt) (cause : Cause) → AwaitsAsk t → t.phase ≡ Active → IsLed (rolled t cause) u
       → ((heap : List ℕ) → IsPossible lawful size t.notes heap → leaves heap)
       → (IsWord cause → (heap : List ℕ) → IsPossible lawful size t.notes heap → gives cause heap t.now) → ComesToEnd lawful size ends gives leaves u
+
+-- A before-commit body has its turn, or the attempt came to its end.
+pub data Turning {B : Type 0} (late_means : B → ℕ → List ℕ → Book → Result (Unit {0}) Cause → Book → B → Type 0) (late_leaves : B → ℕ → List ℕ → Book → B → Type 0)
+    (lawful : List ℕ → Type 0) (may : List ℕ → List ℕ → Type 0) (size : ℕ) (body : B) (before : Book) (t : Attempt) (left : B) : Type 0 where
+  in_turn : InTurn late_means late_leaves lawful may size body before t left → Turning late_means late_leaves lawful may size body before t left
+  at_end : IsOver t → ComesToEnd lawful size (λ heap book. RunLate late_means heap book.laters body before book left) (λ cause heap book. GaveLate late_means heap cause body before book left)
+      (λ heap. LeftLate late_means late_leaves heap body before left) t → Turning late_means late_leaves lawful may size body before t left

@@ -10,8 +10,7 @@ ghost use Rattle.stm_model.specs.Refusing.{IsOfCells, deepest};
 ghost use Rattle.stm_model.specs.Telling.{Witness};
 ghost use Rattle.txn_drive.specs.Moment.{moment};
 ghost use Rattle.txn_run.specs.Flights.{IsHere, IsOfBodies, Tells, Went, cells_in_stm, state_of, told_at};
-ghost use Rattle.txn_run.specs.Facts.{AreWords-prop, IsAnswer-prop};
-ghost use Rattle.txn_run.proofs.Going.{went_on, went_self};
+ghost use Rattle.txn_run.specs.Facts.{AreWords-prop, IsAnswer-prop, went_on, went_self};
 
 use crate::flights::Flight;
 use ref_table::{Seat, Stm};
@@ -29,7 +28,7 @@ impl<L: Law> HeapLaw for L {
 
 /// The cells of an attempt. Calls of it go to the shared table, by the seat of its caller.
 #[derive(Drop)]
-pub struct Txn<'a, L: Law, R: Bell, H: Hooks> {
+pub struct Txn<'a, L: HeapLaw, R: Bell, H: Hooks> {
     pub(crate) seat: &'a mut Seat<L>,
     pub(crate) stm: &'a Stm<L>,
     pub(crate) bell: &'a mut R,
@@ -43,7 +42,7 @@ pub struct Txn<'a, L: Law, R: Bell, H: Hooks> {
     ghost deep: { length flight.now.attempt.saved ≤ deepest },
 }
 
-impl<'a, L: Law, R: Bell, H: Hooks> Txn<'a, L, R, H> {
+impl<'a, L: HeapLaw, R: Bell, H: Hooks> Txn<'a, L, R, H> {
     // It is asked for something, and tells what it was answered by.
     fn ask(&mut self, ask: Ask) -> Result<Option<u64>, Cause>
         requires body { IsOfBodies ask }
@@ -64,7 +63,7 @@ impl<'a, L: Law, R: Bell, H: Hooks> Txn<'a, L, R, H> {
 }
 
 #[tactic(auto, unfolding(crate::specs::Flights::Tells, crate::specs::Flights::IsOfBodies, stm_model::specs::Moves::MayAsk))]
-impl<'a, L: Law, R: Bell, H: Hooks> Cells<L> for Txn<'a, L, R, H> {
+impl<'a, L: HeapLaw, R: Bell, H: Hooks> Cells<L> for Txn<'a, L, R, H> {
     ghost law = { λ cells. cells.flight.now.stm.law };
 
     ghost state = { λ cells. state_of cells.flight.now };

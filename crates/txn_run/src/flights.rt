@@ -1,11 +1,10 @@
 //! An attempt in flight, with what is known of it.
-ghost use Rattle.std.specs.Prelude.{◌≡◌, ◌<◌, None, Some};
-ghost use Rattle.stm_core.specs.Machine.{next_of};
+ghost use Rattle.std.specs.Prelude.{◌≡◌, ◌≢◌, ◌<◌, ◌^◌, ℕ, IfSome, None, Some};
 ghost use Rattle.ref_table.specs.Calls.{AreEmpty};
 ghost use Rattle.ref_table.specs.Seats.{terms_in};
 ghost use Rattle.ref_table.specs.Seen.{SafeSeat};
 ghost use Rattle.stm_core.specs.Running.{IsSound, shown};
-ghost use Rattle.stm_model.specs.Attempt.{Ended, cause_at};
+ghost use Rattle.stm_model.specs.Attempt.{Ended, Late, cause_at};
 ghost use Rattle.stm_model.specs.Moves.{AwaitsAsk, EndsLate, MayAsk, moved};
 ghost use Rattle.stm_model.specs.Owes.{Owes};
 ghost use Rattle.stm_model.specs.declared.access.Ask.TheVariants.{Finish};
@@ -13,7 +12,7 @@ ghost use Rattle.txn_drive.specs.Begun.{IsBegun};
 ghost use Rattle.txn_drive.specs.Going.{Continues, IsAsked};
 ghost use Rattle.txn_drive.specs.Moment.{moment};
 ghost use Rattle.txn_drive.specs.Paying.{IsLed};
-ghost use Rattle.txn_drive.specs.Standing.{Rests};
+ghost use Rattle.txn_drive.specs.Standing.{IsOver, Rests};
 ghost use Rattle.txn_run.specs.Told.{told_by};
 
 use ref_table::{Lists, Seat, Stm};
@@ -117,11 +116,28 @@ impl<L: Law> Flight<L> {
         answer_of(self.running.next())
     }
 
-    /// What comes next.
-    pub fn next(&self) -> Next
-        ensures { next_of self.now.attempt ≡ Some result }
+    /// The token of the before-commit body that has its turn.
+    pub fn late(&self) -> Option<u64>
+        ensures some { IfSome result (λ token. self.now.attempt.stage ≡ Late token) }
+        ensures none { result ≡ None → (token : ℕ) → self.now.attempt.stage ≢ Late token }
+        ensures within { self.now.attempt.turn < 2 ^ 64 }
     {
-        self.running.next()
+        let _turn = self.running.turn;
+        match self.running.next() {
+            Next::Before { token } => Some(token),
+            _ => None,
+        }
+    }
+
+    /// How it ended, once it is over.
+    pub fn ending(&self) -> Ending
+        requires { IsOver self.now.attempt }
+        ensures { self.now.attempt.ending ≡ Some result }
+    {
+        match self.running.next() {
+            Next::Reply(Reply::Ended(ending)) => ending,
+            _ => unreachable!(),
+        }
     }
 
     /// The attempt as it was kept.

@@ -12,5 +12,5 @@ invariant_of-result g c =
     rw (c.of.ensures, c.of-2.ensures) (record {
       own = begun.seat.same.table ∙ c.requires.own;
       sound = c.begin-running.ensures.sound;
-      stands = begun_stands (g.L.Law.lawful stm.law) (g.L.Law.may stm.law) (terms_in stm) stm.settings c.args.seat.now c.begin.new.seat (shown c.begin-running.result) begun;
+      stands = begun_stands (g.L.Law.lawful stm.law) (g.L.Law.may stm.law) (terms_in stm) stm.settings c.args.seat.now c.begin-running.new.seat (shown c.begin-running.result) begun;
     })
