@@ -181,7 +181,7 @@ asked_so t u v ask put led stays = ⊎_elim
     (λ (taken : u ≡ moved t (Takes ask)). inl (subst (λ (a : Attempt). IsLed a v) taken led))
     (λ (refused : IsRefused t ask u). inr (subst (IsRefused t ask) (sym (stays refused)) refused)) put
 
-waits_after : (t : Attempt) (stage : Stage) (answer : Answer) → AwaitsAskAt stage → after_at t stage answer ≡ t
+pub waits_after : (t : Attempt) (stage : Stage) (answer : Answer) → AwaitsAskAt stage → after_at t stage answer ≡ t
 unfolding after_at AwaitsAskAt
 waits_after t (Ready told) answer waits = refl
 waits_after t (Late token) answer waits = refl

@@ -1,7 +1,12 @@
 pub mod Answering
+pub mod Awaiting
 pub mod Calling
 pub mod Concluding
 pub mod Finishing
+pub mod Kept
 pub mod Known
+pub mod Reading
+pub mod Refused
 pub mod Standing
 pub mod Turning
+pub mod Writing
