@@ -1,6 +1,7 @@
 -- What an attempt that rests does next tells what it was answered by.
-use Rattle.std.proofs.Common.{◌≡◌, ℕ, List, [], Option, Some, None, Result, Ok, Err, refl, sym, ap, subst, ◌∙◌, ⊎_elim}
-use Rattle.stm_core.specs.Machine.{after_due, next_of, over, standing}
+use Rattle.std.proofs.Common.{◌≡◌, ◌≢◌, ℕ, List, [], Option, Some, None, Result, Ok, Err, refl, sym, ap, subst, ◌∙◌, ⊎_elim}
+use Rattle.stm_core.specs.Machine as Machine
+use Rattle.stm_core.specs.Machine.{after_due, next_of, standing}
 use Rattle.stm_core.specs.declared.next.Next.{Next}
 use Rattle.stm_core.specs.declared.next.Next.TheVariants as coming
 use Rattle.stm_core.specs.declared.next.Reply.TheVariants as reply
@@ -9,7 +10,7 @@ use Rattle.stm_model.specs.Moves.{AwaitsAsk, AwaitsAskAt}
 use Rattle.stm_model.specs.declared.ending.Ending.{Ending}
 use Rattle.txn_drive.specs.Standing.{IsOver, Rests}
 use Rattle.txn_run.specs.Flights.{told_at}
-use Rattle.txn_run.specs.Told.{told_by}
+use Rattle.txn_run.specs.Told.{ending_by, token_at, token_by, told_by}
 
 next_stands : (t : Attempt) → t.due ≡ [] → next_of t ≡ standing t t.stage
 unfolding after_due
@@ -23,7 +24,7 @@ waits_tell t (Late token) next waits is = let same : next ≡ coming.Before toke
 waits_tell t (Stopped cause) next waits is = let same : next ≡ coming.Reply (reply.Stopped cause) = cc is in rw same refl
 waits_tell t stage next waits is = absurd waits
 
-ends_tell : (ending : Option Ending) (next : Next) → over ending ≡ Some next → told_by next ≡ Ok None
+ends_tell : (ending : Option Ending) (next : Next) → Machine.over ending ≡ Some next → told_by next ≡ Ok None
 ends_tell None next is = absurd (cc is)
 ends_tell (Some ending) next is = let same : next ≡ coming.Reply (reply.Ended ending) = cc is in rw same refl
 
@@ -35,3 +36,45 @@ pub told_next : (t : Attempt) (next : Next) → Rests t → next_of t ≡ Some n
 told_next t next rests is = ⊎_elim
     (λ (waits : AwaitsAsk t). waits_tell t t.stage next waits.stands (sym (next_stands t waits.nothing_due) ∙ is))
     (λ (over : IsOver t). over_tells t t.stage next over.stage (sym (next_stands t over.nothing_due) ∙ is)) rests
+
+-- ---- a before-commit body has its turn, or the attempt has ended
+
+waits_turn : (t : Attempt) (stage : Stage) (next : Next) → AwaitsAskAt stage → standing t stage ≡ Some next → token_by next ≡ token_at stage
+unfolding AwaitsAskAt standing token_at
+waits_turn t (Ready None) next waits is = let same : next ≡ coming.Reply reply.Ready = cc is in rw same refl
+waits_turn t (Ready (Some value)) next waits is = let same : next ≡ coming.Reply (reply.Value value) = cc is in rw same refl
+waits_turn t (Late token) next waits is = let same : next ≡ coming.Before token = cc is in rw same refl
+waits_turn t (Stopped cause) next waits is = let same : next ≡ coming.Reply (reply.Stopped cause) = cc is in rw same refl
+waits_turn t stage next waits is = absurd waits
+
+over_turn : (ending : Option Ending) (next : Next) → Machine.over ending ≡ Some next → token_by next ≡ None
+over_turn None next is = absurd (cc is)
+over_turn (Some ending) next is = let same : next ≡ coming.Reply (reply.Ended ending) = cc is in rw same refl
+
+ended_turn : (t : Attempt) (stage : Stage) (next : Next) → stage ≡ Ended → standing t stage ≡ Some next → token_by next ≡ token_at stage
+unfolding standing token_at
+ended_turn t stage next over is = rw over (over_turn t.ending next (rw over at is))
+
+pub token_next : (t : Attempt) (next : Next) → Rests t → next_of t ≡ Some next → token_by next ≡ token_at t.stage
+token_next t next rests is = ⊎_elim
+    (λ (waits : AwaitsAsk t). waits_turn t t.stage next waits.stands (sym (next_stands t waits.nothing_due) ∙ is))
+    (λ (over : IsOver t). ended_turn t t.stage next over.stage (sym (next_stands t over.nothing_due) ∙ is)) rests
+
+ending_found : (found : Option Ending) (next : Next) → Machine.over found ≡ Some next → ending_by next ≡ found
+ending_found None next is = absurd (cc is)
+ending_found (Some ending) next is = let same : next ≡ coming.Reply (reply.Ended ending) = cc is in rw same refl
+
+some_found : (found : Option Ending) (next : Next) → Machine.over found ≡ Some next → found ≢ None
+some_found None next is none = cc is
+some_found (Some ending) next is none = cc none
+
+next_over : (t : Attempt) (next : Next) → IsOver t → next_of t ≡ Some next → Machine.over t.ending ≡ Some next
+unfolding standing
+next_over t next over is = subst (λ (stage : Stage). standing t stage ≡ Some next) over.stage (sym (next_stands t over.nothing_due) ∙ is)
+
+-- Who is over has ended so.
+pub ending_next : (t : Attempt) (next : Next) → IsOver t → next_of t ≡ Some next → ending_by next ≡ t.ending
+ending_next t next over is = ending_found t.ending next (next_over t next over is)
+
+pub has_ended : (t : Attempt) (next : Next) → IsOver t → next_of t ≡ Some next → ending_by next ≢ None
+has_ended t next over is none = some_found t.ending next (next_over t next over is) (sym (ending_next t next over is) ∙ none)

@@ -2,6 +2,7 @@ pub mod Answering
 pub mod Awaiting
 pub mod Calling
 pub mod Concluding
+pub mod Ending
 pub mod Finishing
 pub mod Kept
 pub mod Known

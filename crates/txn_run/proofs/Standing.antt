@@ -1,7 +1,11 @@
 -- How an attempt stands to its seat after it has begun, and after it was asked.
-use Rattle.std.proofs.Common.{◌≡◌, ◌≢◌, ℕ, ◌≤◌, ◌⊎◌, List, [], length, Option, Some, None, refl, sym, ap, subst, ◌∙◌, ⊎_elim, inl, inr, arith}
+use Rattle.std.proofs.Common.{◌≡◌, ◌≢◌, ℕ, ◌≤◌, ◌⊎◌, List, [], length, Option, Some, None, Result, refl, sym, ap, subst, ◌∙◌, ⊎_elim, inl, inr, arith}
 use Rattle.std.specs.Prelude.{IfSome}
-use Rattle.ref_table.specs.Seats.{SeatState}
+use Rattle.ref_table.specs.Seats.{SeatState, StmState, terms_in}
+use Rattle.std.specs.Map.{values_of}
+use Rattle.stm_model.specs.Heap.{AreWords}
+use Rattle.stm_model.specs.Telling.{Witness}
+use Rattle.stm_model.specs.declared.cause.Cause.{Cause}
 use Rattle.stm_model.specs.Attempt.{Attempt, Ended, Late, Ready, Stage, Stopped, cause_at}
 use Rattle.stm_model.specs.Moves.{AwaitsAsk, AwaitsAskAt, MayAsk}
 use Rattle.stm_model.specs.Refusing.{IsOfCells, deepest}
@@ -12,9 +16,10 @@ use Rattle.stm_model.specs.declared.settings.Settings.{Settings}
 use Rattle.txn_drive.specs.Begun.{IsBegun}
 use Rattle.txn_drive.specs.Going.{IsAsked}
 use Rattle.txn_drive.specs.Standing.{IsOn, IsOver, Rests}
-use Rattle.txn_run.specs.Flights.{IsOfBodies, Stands}
-use Rattle.txn_run.proofs.Calling.{ask_ends}
+use Rattle.txn_run.specs.Flights.{IsOfBodies, MayBeAsked, Stands, Tells, cells_in_stm, state_on, told_at}
+use Rattle.txn_run.proofs.Calling.{AskEnds, ask_ends}
 use Rattle.txn_run.proofs.Finishing.{FinishEnds, abandon_ends, concluded, finish_ends, late, rolled_back}
+use Rattle.txn_run.proofs.Known.{witness_here, words_here}
 
 ready_waits : (stage : Stage) → stage ≡ Ready None → AwaitsAskAt stage
 unfolding AwaitsAskAt
@@ -91,3 +96,46 @@ kept_of lawful may terms seat t stands = record { refused = stands.refused; deep
 
 pub stands_of : (lawful : List ℕ → Type 0) (may : List ℕ → List ℕ → Type 0) (terms : Terms) (seat : SeatState) (t : Attempt) → IsOn lawful may terms seat t → Rests t → IsKept t → Stands lawful may terms seat t
 stands_of lawful may terms seat t on rests kept = record { on = on; rests = rests; refused = kept.refused; deep = kept.deep }
+
+-- ---- the cells of an attempt
+
+-- An attempt in flight that rests waits to be asked.
+pub rests_waits : (t : Attempt) → Rests t → t.stage ≢ Ended → AwaitsAsk t
+rests_waits t rests going = ⊎_elim (λ waits. waits) (λ (over : IsOver t). absurd (going over.stage)) rests
+
+module _ {S : Type 0} (lawful : List ℕ → Type 0) (may : List ℕ → List ℕ → Type 0) (stm : StmState S) (t : Attempt) (rests : Rests t) (going : t.stage ≢ Ended)
+    (ask : Ask) (of_body : IsOfBodies ask) (able : MayAsk (cells_in_stm stm) t ask) where
+  no_finish : ask ≡ Finish → ⊥
+  unfolding IsOfBodies
+  no_finish is = rw is at of_body
+
+  pub may_be_asked : MayBeAsked lawful may (terms_in stm) t ask
+  may_be_asked = record { waits = rests_waits t rests going; able = able; owes = λ is. absurd (no_finish is) }
+
+  module _ (u : Attempt) (asked : IsAsked t ask u) (then_rests : Rests u) where
+    ends : AskEnds lawful (cells_in_stm stm) ask t u
+    ends = ask_ends lawful (cells_in_stm stm) ask t u (rests_waits t rests going) of_body able asked then_rests
+
+    pub asked_tells : (told : Result (Option ℕ) Cause) → told ≡ told_at u.stage → Tells lawful ask told (state_on stm t) (state_on stm u)
+    asked_tells told is = rw is ends.tells
+
+    pub asked_going : u.stage ≢ Ended
+    asked_going = waits_flies u.stage ends.waits.stands
+
+    pub asked_turn : u.turn ≡ t.turn
+    asked_turn = ends.turn
+
+-- what a body may rely on there
+pub record Knows (lawful : List ℕ → Type 0) (size : ℕ) (t : Attempt) : Type 0 where
+  pub witness : Witness lawful size t.notes
+  pub words : AreWords (values_of t.now.writes)
+  pub answered : IfSome (cause_at t.stage) IsOfCells
+  pub deep : length t.saved ≤ deepest
+
+pub knows_here : (lawful : List ℕ → Type 0) (may : List ℕ → List ℕ → Type 0) (terms : Terms) (seat : SeatState) (t : Attempt) → t.stage ≢ Ended → Stands lawful may terms seat t → Knows lawful (cells_in terms) t
+knows_here lawful may terms seat t going stands = record {
+  witness = witness_here lawful may terms seat t stands.on;
+  words = words_here lawful may terms seat t stands.on;
+  answered = stands.refused;
+  deep = stands.deep going;
+}

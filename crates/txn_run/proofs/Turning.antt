@@ -31,11 +31,14 @@ word_of_cells (Full used blocks) word of = absurd of
 word_of_cells cause word of = absurd word
 
 -- and the heap decides it
-word_decided : {T : Type 0} (cause : Cause) → IsWord cause → IsDecided {T} (Err cause)
-word_decided Retry word = tt
-word_decided (User code) word = tt
-word_decided (Full used blocks) word = tt
-word_decided cause word = absurd word
+pub word_decided : (T : Type 0) (cause : Cause) → IsWord cause → IsDecided {T = T} (Err cause)
+word_decided T Retry word = tt
+word_decided T (User code) word = tt
+word_decided T (Full used blocks) word = tt
+word_decided T cause word = absurd word
+
+pub refused_word : (t : Attempt) (cause : Cause) → IfSome (cause_at t.stage) IsOfCells → cause_at t.stage ≡ Some cause → IsWord cause → ⊥
+refused_word t cause of is word = word_of_cells cause word (subst (λ (c : Option Cause). IfSome c IsOfCells) is of)
 
 -- ---- lists
 
@@ -60,26 +63,26 @@ module _ {B : Type 0} (late_means : B → ℕ → List ℕ → Book → Result (
   run_one : (heap : List ℕ) (tokens : List ℕ) (token : ℕ) (body next left : B) (before book after : Book) → RunLate late_means heap tokens body before book next
       → late_means next token heap book (Ok tt) after left → RunLate late_means heap (tokens ++ token ∷ []) body before after left
   run_one heap [] token body next left before book after ran one =
-      (after, left, subst (λ (b : Book). late_means body token heap b (Ok tt) after left) ran.0 (subst (λ (n : B). late_means n token heap book (Ok tt) after left) ran.1 one), refl, refl)
+      (after, left, subst (λ (b : Book). late_means body token heap b (Ok tt) after left) ran.0 (subst (λ (n : B). late_means n token heap book (Ok tt) after left) ran.1 one), (refl, refl))
   run_one heap (first ∷ tokens) token body next left before book after ran one = (ran.0, ran.1, ran.2, run_one heap tokens token ran.1 next left ran.0 book after ran.3 one)
 
-  module _ (lawful : List ℕ → Type 0) (may : List ℕ → List ℕ → Type 0) (size : ℕ) (body : B) (before : Book) where
+  module _ (Going : Type 0) (lawful : List ℕ → Type 0) (may : List ℕ → List ℕ → Type 0) (size : ℕ) (body : B) (reads : List Note) (before : Book) where
     -- What is known of an attempt whose body, or whose before-commit body, is over.
     pub record IsReached (t : Attempt) (left : B) : Type 0 where
       waits : AwaitsAsk t
       active : t.phase ≡ Active
       refused : IfSome (cause_at t.stage) IsOfCells
       owes : cause_at t.stage ≡ None → Owes lawful may size t.notes t.now.writes
+      since : cause_at t.stage ≡ None → Going
+      earlier : (heap : List ℕ) → IsPossible lawful size t.notes heap → IsPossible lawful size reads heap
       ran : cause_at t.stage ≡ None → (heap : List ℕ) → IsPossible lawful size t.notes heap → RunLate late_means heap (take t.turn t.now.laters) body before t.now left
-      leaves : (heap : List ℕ) → IsPossible lawful size t.notes heap → LeftLate late_means late_leaves heap body before left
+      leaves : (heap : List ℕ) → IsPossible lawful size t.notes heap → LeftLate Going late_means late_leaves heap body before left
 
-    refused_word : (t : Attempt) (cause : Cause) → IfSome (cause_at t.stage) IsOfCells → cause_at t.stage ≡ Some cause → IsWord cause → ⊥
-    refused_word t cause of is word = word_of_cells cause word (subst (λ (c : Option Cause). IfSome c IsOfCells) is of)
-
-    pub turning_from : (t u : Attempt) (left : B) → IsReached t left → FinishEnds t u → Turning late_means late_leaves lawful may size body before u left
+    pub turning_from : (t u : Attempt) (left : B) → IsReached t left → FinishEnds t u → Turning Going late_means late_leaves lawful may size body reads before u left
     unfolding AwaitsAskAt
     turning_from t u left reached ends = elim ends [
-      | end.late token tokens going next is ↦ subst (λ (a : Attempt). Turning late_means late_leaves lawful may size body before a left) (sym is) (in_turn (record {
+      | end.late token tokens going next is ↦ subst (λ (a : Attempt). Turning Going late_means late_leaves lawful may size body reads before a left) (sym is) (in_turn (record {
+          going = reached.since going;
           waits = record { stands = tt; nothing_due = reached.waits.nothing_due };
           done = t.turn;
           turn = refl;
@@ -88,18 +91,20 @@ module _ {B : Type 0} (late_means : B → ℕ → List ℕ → Book → Result (
           stage = refl;
           next = next;
           owes = reached.owes going;
+          earlier = reached.earlier;
           ran = reached.ran going;
           leaves = reached.leaves;
         }))
       | end.concluded going none led over ↦ at_end over (concluded t reached.waits reached.active led
-          (λ heap possible. (subst (λ (tokens : List ℕ). RunLate late_means heap tokens body before t.now left) (take_whole t.now.laters t.turn none) (reached.ran going heap possible), reached.leaves heap possible)))
-      | end.rolled_back cause is led over ↦ at_end over (rolled_back t cause reached.waits reached.active led reached.leaves
+          (λ heap possible. ((record { going = reached.since going; possible = reached.earlier heap possible }, subst (λ (tokens : List ℕ). RunLate late_means heap tokens body before t.now left) (take_whole t.now.laters t.turn none) (reached.ran going heap possible)),
+          (reached.earlier heap possible, reached.leaves heap possible))))
+      | end.rolled_back cause is led over ↦ at_end over (rolled_back t cause reached.waits reached.active led (λ heap possible. (reached.earlier heap possible, reached.leaves heap possible))
           (λ word. absurd (refused_word t cause reached.refused is word)))
     ]
 
     -- ---- one turn
 
-    module _ (t u : Attempt) (next left : B) (answer : Result (Unit {0}) Cause) (turn : InTurn late_means late_leaves lawful may size body before t next)
+    module _ (t u : Attempt) (next left : B) (answer : Result (Unit {0}) Cause) (turn : InTurn Going late_means late_leaves lawful may size body reads before t next)
         (waits : AwaitsAsk u) (active : u.phase ≡ Active) (refused : IfSome (cause_at u.stage) IsOfCells) (same : u.turn ≡ t.turn)
         (ran : Ran lawful may (λ heap book answer after. late_means next turn.token heap book answer after left) (λ heap book. late_leaves next turn.token heap book left) answer (cells_of size t) (cells_of size u)) where
       was_going : cause_at t.stage ≡ None
@@ -108,8 +113,8 @@ module _ {B : Type 0} (late_means : B → ℕ → List ℕ → Book → Result (
       earlier : (heap : List ℕ) → IsPossible lawful size u.notes heap → IsPossible lawful size t.notes heap
       earlier heap possible = IsPossible-before lawful size t.notes u.notes heap ran.reads possible
 
-      leaves_so : (heap : List ℕ) → IsPossible lawful size u.notes heap → LeftLate late_means late_leaves heap body before left
-      leaves_so heap possible = by_late (take turn.done t.now.laters) turn.token t.now next (turn.ran heap (earlier heap possible)) (take_front t.now.laters turn.done turn.token turn.behind turn.next) (ran.left heap possible)
+      leaves_so : (heap : List ℕ) → IsPossible lawful size u.notes heap → LeftLate Going late_means late_leaves heap body before left
+      leaves_so heap possible = by_late turn.going (take turn.done t.now.laters) turn.token t.now next (turn.ran heap (earlier heap possible)) (take_front t.now.laters turn.done turn.token turn.behind turn.next) (ran.left heap possible)
 
       all_turns : cause_at u.stage ≡ None → take u.turn u.now.laters ≡ take turn.done t.now.laters ++ turn.token ∷ []
       all_turns going =
@@ -122,6 +127,8 @@ module _ {B : Type 0} (late_means : B → ℕ → List ℕ → Book → Result (
         active = active;
         refused = refused;
         owes = λ going. subst (λ (a : Result (Unit {0}) Cause). IfOk a (λ out. Owes lawful may size u.notes u.now.writes)) well (ran.owes going);
+        since = λ going. turn.going;
+        earlier = λ heap possible. turn.earlier heap (earlier heap possible);
         ran = λ going heap possible. subst (λ (tokens : List ℕ). RunLate late_means heap tokens body before u.now left) (sym (all_turns going))
             (run_one heap (take turn.done t.now.laters) turn.token body next left before t.now u.now (turn.ran heap (earlier heap possible))
             (subst (λ (a : Result (Unit {0}) Cause). late_means next turn.token heap t.now a u.now left) well (ran.whole going (subst IsDecided (sym well) tt) heap possible)));
@@ -136,13 +143,13 @@ module _ {B : Type 0} (late_means : B → ℕ → List ℕ → Book → Result (
         next = next;
         ran = turn.ran heap (earlier heap possible);
         front = take_front t.now.laters turn.done turn.token turn.behind turn.next;
-        gave = subst (λ (a : Result (Unit {0}) Cause). late_means next turn.token heap t.now a u.now left) is (ran.whole going (subst IsDecided (sym is) (word_decided cause word)) heap possible);
+        gave = subst (λ (a : Result (Unit {0}) Cause). late_means next turn.token heap t.now a u.now left) is (ran.whole going (subst IsDecided (sym is) (word_decided (Unit {0}) cause word)) heap possible);
       }
 
-      pub turned_ill : (cause : Cause) (v : Attempt) → answer ≡ Err cause → AbandonEnds cause u v → Turning late_means late_leaves lawful may size body before v left
-      turned_ill cause v is ends = at_end ends.over (rolled_back u ends.last waits active ends.led leaves_so (λ word heap possible. ⊎_elim
+      pub turned_ill : (cause : Cause) (v : Attempt) → answer ≡ Err cause → AbandonEnds cause u v → Turning Going late_means late_leaves lawful may size body reads before v left
+      turned_ill cause v is ends = at_end ends.over (rolled_back u ends.last waits active ends.led (λ heap possible. (turn.earlier heap (earlier heap possible), leaves_so heap possible)) (λ word heap possible. (record { going = turn.going; possible = turn.earlier heap (earlier heap possible) }, ⊎_elim
           (λ (known : cause_at u.stage ≡ Some ends.last). absurd (refused_word u ends.last refused known word))
-          (λ fresh. subst (λ (c : Cause). GaveLate late_means heap c body before u.now left) (sym fresh.1) (gave_so cause is fresh.0 (subst IsWord fresh.1 word) heap possible)) ends.is))
+          (λ fresh. subst (λ (c : Cause). GaveLate late_means heap c body before u.now left) (sym fresh.1) (gave_so cause is fresh.0 (subst IsWord fresh.1 word) heap possible)) ends.is)))
 
 -- ---- each turn leaves fewer
 

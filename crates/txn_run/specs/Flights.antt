@@ -1,10 +1,10 @@
 -- Private: an attempt between two calls of its cells.
-use Rattle.std.specs.Prelude.{◌≡◌, ◌≢◌, ℕ, ◌<◌, ◌≤◌, List, length, IfSome, None, Option, Result, Ok, Err, Some}
+use Rattle.std.specs.Prelude.{◌≡◌, ◌≢◌, ℕ, ◌<◌, ◌≤◌, List, [], length, IfSome, None, Option, Result, Ok, Err, Some}
 use Rattle.ref_table.specs.Seats.{SeatState, StmState, terms_in}
 use Rattle.stm_core.specs.Running.{IsSound, shown}
 use Rattle.stm_core.specs.declared.running.Running.{Running}
 use Rattle.stm_model.specs.Attempt.{Attempt, Ended, Ready, Stage, Stopped, cause_at, cells_of}
-use Rattle.stm_model.specs.CellsState.{CellsState, entered, hooked, kept, late_registered, undone, written}
+use Rattle.stm_model.specs.CellsState.{CellsState, empty_book, entered, hooked, kept, late_registered, undone, written}
 use Rattle.stm_model.specs.Handlers.{Handlers}
 use Rattle.stm_model.specs.Moves.{AwaitsAsk, MayAsk}
 use Rattle.stm_model.specs.Owes.{Owes}
@@ -28,9 +28,9 @@ pub record FlightState (S : Type 0) : Type 0 where
 abbrev pub cells_in_stm : {S : Type 0} → StmState S → ℕ
 cells_in_stm stm = cells_in (terms_in stm)
 
--- what a body sees of it
-abbrev pub state_of : {S : Type 0} → FlightState S → CellsState
-state_of flight = cells_of (cells_in_stm flight.stm) flight.attempt
+-- what a body sees of an attempt on this table
+abbrev pub state_on : {S : Type 0} → StmState S → Attempt → CellsState
+state_on stm t = cells_of (cells_in_stm stm) t
 
 -- It is on this table and of this seat.
 pub record IsHere {S : Type 0} (stm : StmState S) (seat : SeatState) (flight : FlightState S) : Type 0 where
@@ -43,6 +43,13 @@ pub record Stands (lawful : List ℕ → Type 0) (may : List ℕ → List ℕ �
   pub rests : Rests t
   pub refused : IfSome (cause_at t.stage) IsOfCells
   pub deep : t.stage ≢ Ended → length t.saved ≤ deepest
+
+-- Its body has still to run: it waits to be asked, and nothing is read, written or registered.
+pub record IsFresh (t : Attempt) : Type 0 where
+  pub stage : t.stage ≡ Ready None
+  pub notes : t.notes ≡ []
+  pub now : t.now ≡ empty_book
+  pub turn : t.turn ≡ 0
 
 -- So it stands on this table, as it is kept.
 pub record IsFlying {S : Type 0} (lawful : List ℕ → Type 0) (may : List ℕ → List ℕ → Type 0) (stm : StmState S) (seat : SeatState) (running : Running) : Type 0 where

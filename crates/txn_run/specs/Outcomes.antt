@@ -12,6 +12,7 @@ use Rattle.stm_model.specs.Refusing.{IsOfBody}
 use Rattle.stm_model.specs.World.{entry_of}
 use Rattle.stm_model.specs.declared.cause.Cause.{Cause}
 use Rattle.stm_model.specs.declared.cause.Cause.TheVariants.{AttemptsEnd, ClockEnd, Full, Retry, User}
+use Rattle.stm_model.specs.declared.note.Note.{Note}
 use Rattle.stm_model.specs.declared.ending.Ending.TheVariants.{Committed, Read, Rolled}
 use Rattle.txn_drive.specs.Calls.{TellsMore}
 use Rattle.txn_run.specs.Bodies.{HasBook}
@@ -91,3 +92,8 @@ abbrev pub Concludes : {T : Type 0} → (T → List ℕ → Book → Type 0) →
 Concludes ends gives leaves untouched stm before after outcome =
     (Made stm.settings.attempts before after × ConcludesAs ends gives leaves stm.opening before after outcome)
     ⊎ IsSpent stm.settings.attempts untouched before after outcome
+
+-- What was read is handed back: the notes of the attempt that was made, and none where none was.
+pub record HandsBack (attempts : ℕ) (before after : SeatState) (notes : List Note) : Type 0 where
+  pub made : (attempt_in before).serial < attempts → notes ≡ (attempt_in after).notes
+  pub spent : (attempt_in before).serial ≡ attempts → notes ≡ []

@@ -9,7 +9,7 @@ ghost use Rattle.stm_model.specs.Moves.{MayAsk};
 ghost use Rattle.stm_model.specs.Refusing.{IsOfCells, deepest};
 ghost use Rattle.stm_model.specs.Telling.{Witness};
 ghost use Rattle.txn_drive.specs.Moment.{moment};
-ghost use Rattle.txn_run.specs.Flights.{IsHere, IsOfBodies, Tells, Went, cells_in_stm, state_of, told_at};
+ghost use Rattle.txn_run.specs.Flights.{IsHere, IsOfBodies, Tells, Went, cells_in_stm, state_on, told_at};
 ghost use Rattle.txn_run.specs.Facts.{AreWords-prop, IsAnswer-prop, went_on, went_self};
 
 use crate::flights::Flight;
@@ -20,10 +20,14 @@ use txn_drive::Ask;
 /// The law of a heap, for the facts that cells keep.
 pub trait HeapLaw: Law {
     ghost heaps: { Self → List ℕ → Type 0 };
+
+    ghost is_lawful: { (law : Self) → heaps law ≡ Self.lawful law };
 }
 
 impl<L: Law> HeapLaw for L {
     ghost heaps = { L.lawful };
+
+    ghost is_lawful = { λ _. refl };
 }
 
 /// The cells of an attempt. Calls of it go to the shared table, by the seat of its caller.
@@ -36,7 +40,7 @@ pub struct Txn<'a, L: HeapLaw, R: Bell, H: Hooks> {
     pub(crate) flight: &'a mut Flight<L>,
     ghost here: { IsHere stm.now seat.now flight.now },
     ghost going: { flight.now.attempt.stage ≢ Ended },
-    ghost witness: { ∥ Witness (L.heaps flight.now.stm.law) (cells_in_stm flight.now.stm) flight.now.attempt.notes ∥₁ },
+    ghost witness: { ∥ Witness (L.heaps stm.now.law) (cells_in_stm stm.now) flight.now.attempt.notes ∥₁ },
     ghost words: { AreWords (values_of flight.now.attempt.now.writes) } by { AreWords-prop (values_of flight.now.attempt.now.writes) },
     ghost answered: { IfSome (cause_at flight.now.attempt.stage) IsOfCells } by { IsAnswer-prop (cause_at flight.now.attempt.stage) },
     ghost deep: { length flight.now.attempt.saved ≤ deepest },
@@ -46,31 +50,30 @@ impl<'a, L: HeapLaw, R: Bell, H: Hooks> Txn<'a, L, R, H> {
     // It is asked for something, and tells what it was answered by.
     fn ask(&mut self, ask: Ask) -> Result<Option<u64>, Cause>
         requires body { IsOfBodies ask }
-        requires able { MayAsk (cells_in_stm self.old.flight.now.stm) self.old.flight.now.attempt ask }
-        ensures same_law { self.new.flight.now.stm ≡ self.old.flight.now.stm }
+        requires able { MayAsk (cells_in_stm self.old.stm.now) self.old.flight.now.attempt ask }
+        ensures same_table { self.new.stm.now ≡ self.old.stm.now }
         ensures names { (self.new.seat.ghost_name ≡ self.old.seat.ghost_name) × (self.new.bell.ghost_name ≡ self.old.bell.ghost_name)
             × (self.new.hooks.ghost_name ≡ self.old.hooks.ghost_name) × (self.new.flight.ghost_name ≡ self.old.flight.ghost_name) }
         ensures went { Went (moment self.old.seat.now self.old.flight.now.attempt (H.runs self.old.hooks.now) (R.rings self.old.bell.now))
             (moment self.new.seat.now self.new.flight.now.attempt (H.runs self.new.hooks.now) (R.rings self.new.bell.now)) }
-        ensures tells { Tells (L.lawful self.old.flight.now.stm.law) ask result (state_of self.old.flight.now) (state_of self.new.flight.now) }
+        ensures tells { Tells (L.lawful self.old.stm.now.law) ask result (state_on self.old.stm.now self.old.flight.now.attempt) (state_on self.old.stm.now self.new.flight.now.attempt) }
     {
         self.flight.stands();
         self.flight
             .ask(self.seat, self.stm, self.bell, self.hooks, ask);
-        self.flight.stands();
         self.flight.told()
     }
 }
 
 #[tactic(auto, unfolding(crate::specs::Flights::Tells, crate::specs::Flights::IsOfBodies, stm_model::specs::Moves::MayAsk))]
 impl<'a, L: HeapLaw, R: Bell, H: Hooks> Cells<L> for Txn<'a, L, R, H> {
-    ghost law = { λ cells. cells.flight.now.stm.law };
+    ghost law = { λ cells. cells.stm.now.law };
 
-    ghost state = { λ cells. state_of cells.flight.now };
+    ghost state = { λ cells. state_on cells.stm.now cells.flight.now.attempt };
 
     ghost follows = { λ before after. (after.seat.ghost_name ≡ before.seat.ghost_name) × (after.bell.ghost_name ≡ before.bell.ghost_name)
         × (after.hooks.ghost_name ≡ before.hooks.ghost_name) × (after.flight.ghost_name ≡ before.flight.ghost_name)
-        × (after.flight.now.stm ≡ before.flight.now.stm)
+        × (after.stm.now ≡ before.stm.now)
         × Went (moment before.seat.now before.flight.now.attempt (H.runs before.hooks.now) (R.rings before.bell.now))
         (moment after.seat.now after.flight.now.attempt (H.runs after.hooks.now) (R.rings after.bell.now)) };
 
@@ -78,7 +81,7 @@ impl<'a, L: HeapLaw, R: Bell, H: Hooks> Cells<L> for Txn<'a, L, R, H> {
 
     ghost follows_trans = { λ first second third one two. (two.0 ∙ one.0, two.1 ∙ one.1, two.2 ∙ one.2, two.3 ∙ one.3, two.4 ∙ one.4, went_on _ _ _ one.5 two.5) };
 
-    ghost witness = { λ cells. cells.witness };
+    ghost witness = { λ cells. subst (λ heaps. ∥ Witness heaps (cells_in_stm cells.stm.now) cells.flight.now.attempt.notes ∥₁) (L.is_lawful cells.stm.now.law) cells.witness };
 
     ghost words = { λ cells. cells.words };
 

@@ -1,11 +1,11 @@
 //! An attempt in flight, with what is known of it.
-ghost use Rattle.std.specs.Prelude.{◌≡◌, ◌≢◌, ◌<◌, ◌^◌, ℕ, IfSome, None, Some};
+ghost use Rattle.std.specs.Prelude.{◌≡◌, ◌<◌, Some};
 ghost use Rattle.ref_table.specs.Calls.{AreEmpty};
 ghost use Rattle.ref_table.specs.Seats.{terms_in};
 ghost use Rattle.ref_table.specs.Seen.{SafeSeat};
 ghost use Rattle.stm_core.specs.Running.{IsSound, shown};
-ghost use Rattle.stm_model.specs.Attempt.{Ended, Late, cause_at};
-ghost use Rattle.stm_model.specs.Moves.{AwaitsAsk, EndsLate, MayAsk, moved};
+ghost use Rattle.stm_model.specs.Attempt.{Ended};
+ghost use Rattle.stm_model.specs.Moves.{EndsLate, moved};
 ghost use Rattle.stm_model.specs.Owes.{Owes};
 ghost use Rattle.stm_model.specs.declared.access.Ask.TheVariants.{Finish};
 ghost use Rattle.txn_drive.specs.Begun.{IsBegun};
@@ -13,7 +13,7 @@ ghost use Rattle.txn_drive.specs.Going.{Continues, IsAsked};
 ghost use Rattle.txn_drive.specs.Moment.{moment};
 ghost use Rattle.txn_drive.specs.Paying.{IsLed};
 ghost use Rattle.txn_drive.specs.Standing.{IsOver, Rests};
-ghost use Rattle.txn_run.specs.Told.{told_by};
+ghost use Rattle.txn_run.specs.Told.{ending_by, token_at, token_by, told_by};
 
 use ref_table::{Lists, Seat, Stm};
 use std::alloc::Global;
@@ -84,7 +84,7 @@ impl<L: Law> Flight<L> {
         ensures here { IsHere stm.now seat.new self.new }
         ensures asked { IsAsked self.old.attempt ask self.new.attempt }
         ensures continues { Continues (moment seat.old self.old.attempt (H.runs hooks.old) (R.rings bell.old)) (moment seat.new self.new.attempt (H.runs hooks.new) (R.rings bell.new)) }
-        ensures rests { Rests self.new.attempt }
+        ensures stands { Stands (L.lawful stm.now.law) (L.may stm.now.law) (terms_in stm.now) seat.new self.new.attempt }
     {
         txn_drive::ask(seat, stm, bell, hooks, &mut self.running, ask);
         self.seat = Snapshot::of(seat);
@@ -103,7 +103,7 @@ impl<L: Law> Flight<L> {
         ensures here { IsHere stm.now seat.new self.new }
         ensures led { IsLed (moved self.old.attempt EndsLate) self.new.attempt }
         ensures continues { Continues (moment seat.old self.old.attempt (H.runs hooks.old) (R.rings bell.old)) (moment seat.new self.new.attempt (H.runs hooks.new) (R.rings bell.new)) }
-        ensures rests { Rests self.new.attempt }
+        ensures stands { Stands (L.lawful stm.now.law) (L.may stm.now.law) (terms_in stm.now) seat.new self.new.attempt }
     {
         txn_drive::end_late(seat, stm, bell, hooks, &mut self.running);
         self.seat = Snapshot::of(seat);
@@ -118,15 +118,16 @@ impl<L: Law> Flight<L> {
 
     /// The token of the before-commit body that has its turn.
     pub fn late(&self) -> Option<u64>
-        ensures some { IfSome result (λ token. self.now.attempt.stage ≡ Late token) }
-        ensures none { result ≡ None → (token : ℕ) → self.now.attempt.stage ≢ Late token }
-        ensures within { self.now.attempt.turn < 2 ^ 64 }
+        ensures { result ≡ token_at self.now.attempt.stage }
     {
-        let _turn = self.running.turn;
-        match self.running.next() {
-            Next::Before { token } => Some(token),
-            _ => None,
-        }
+        token_of(self.running.next())
+    }
+
+    /// How many before-commit bodies have had their turn.
+    pub fn turn(&self) -> usize
+        ensures { result ≡ self.now.attempt.turn }
+    {
+        self.running.turn
     }
 
     /// How it ended, once it is over.
@@ -134,9 +135,9 @@ impl<L: Law> Flight<L> {
         requires { IsOver self.now.attempt }
         ensures { self.now.attempt.ending ≡ Some result }
     {
-        match self.running.next() {
-            Next::Reply(Reply::Ended(ending)) => ending,
-            _ => unreachable!(),
+        match ending_of(self.running.next()) {
+            Some(ending) => ending,
+            None => unreachable!(),
         }
     }
 
@@ -156,5 +157,25 @@ fn answer_of(next: Next) -> Result<Option<u64>, Cause>
         Next::Reply(Reply::Value(value)) => Ok(Some(value)),
         Next::Reply(Reply::Stopped(cause)) => Err(cause),
         _ => Ok(None),
+    }
+}
+
+// The token of the before-commit body that it comes to.
+fn token_of(next: Next) -> Option<u64>
+    ensures { result ≡ token_by next }
+{
+    match next {
+        Next::Before { token } => Some(token),
+        _ => None,
+    }
+}
+
+// How an attempt that comes to this has ended.
+fn ending_of(next: Next) -> Option<Ending>
+    ensures { result ≡ ending_by next }
+{
+    match next {
+        Next::Reply(Reply::Ended(ending)) => Some(ending),
+        _ => None,
     }
 }

@@ -1,6 +1,17 @@
 //! Transactions on the shared table: attempts of callers to run a body as one step.
 #![tactic(auto)]
 
+mod attempts;
+mod bodies;
 mod callers;
 mod cells;
 mod flights;
+mod making;
+mod to_end;
+
+pub use attempts::{attempt, attempt_noting};
+pub use callers::{Caller, Outcome};
+pub use cells::Txn;
+pub use read_set::ReadSet;
+pub use ref_table::{Maker, Mark, Seat, Stm};
+pub use stm_model::{Bell, Body, Cause, Cells, Hooks, Quiet};

@@ -28,3 +28,17 @@ invariant_of-self g c =
       stands = stands_of lawful may (terms_in stm) c.end_late.new.seat u c.end_late.ensures.on c.end_late.ensures.rests
           (finish_kept t u waits kept (late_led t u waits c.end_late.ensures.led c.end_late.ensures.rests));
     })
+
+pub returns-clause-stands : goal.returns-clause-stands
+returns-clause-stands g c =
+    let stm = c.args.stm.now in
+    let lawful = g.L.Law.lawful stm.law in
+    let may = g.L.Law.may stm.law in
+    let t = shown c.self.inside.running in
+    let u = shown c.end_late.new.running in
+    let was : t ≡ c.args.self.now.attempt = ap (λ (flight : FlightState _). flight.attempt) c.self.view_is in
+    let table : c.self.inside.stm.value ≡ stm = ap (λ (flight : FlightState _). flight.stm) c.self.view_is ∙ c.requires.here.table in
+    let kept = kept_of _ _ _ _ t c.self.invariant.stands in
+    let waits = subst AwaitsAsk (sym was) c.requires.ends.waits in
+    stands_of lawful may (terms_in stm) c.end_late.new.seat u c.end_late.ensures.on c.end_late.ensures.rests
+          (finish_kept t u waits kept (late_led t u waits c.end_late.ensures.led c.end_late.ensures.rests))
