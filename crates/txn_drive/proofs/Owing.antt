@@ -36,7 +36,7 @@ module _ (P : Attempt → Type 0) (answers : (t : Attempt) (answer : Answer) →
   over_step t (Finds answer) holds = found_step t t.due answer holds
   over_step t DoesDue holds = does t t.due holds
 
-  over_steps : (t : Attempt) (steps : List Step) → P t → P (led t steps)
+  pub over_steps : (t : Attempt) (steps : List Step) → P t → P (led t steps)
   over_steps t [] holds = holds
   over_steps t (step ∷ steps) holds = over_steps (stepped t step) steps (over_step t step holds)
 

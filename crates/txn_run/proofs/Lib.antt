@@ -3,9 +3,13 @@ pub mod Awaiting
 pub mod Calling
 pub mod Concluding
 pub mod Ending
+pub mod Entries
 pub mod Finishing
+pub mod HandlersRun
 pub mod Kept
 pub mod Known
+pub mod Possible
+pub mod Reaching
 pub mod Reading
 pub mod Refused
 pub mod Standing

@@ -1,6 +1,6 @@
 -- From the run of a body to the end of its attempt.
 use Rattle.std.proofs.Common.{◌≡◌, ◌≢◌, ℕ, ◌≤◌, ◌⊎◌, List, [], ◌∷◌, ◌++◌, length, Option, Some, None, Result, Ok, Err, refl, sym, ap, subst, ◌∙◌, ⊎_elim, append_assoc}
-use Rattle.std.specs.Prelude.{IfOk, IfSome}
+use Rattle.std.specs.Prelude.{IfErr, IfOk, IfSome}
 use mathlib.Core.List.{IsPrefix}
 use Rattle.meta_word.specs.declared.status.Phase.TheVariants.{Active}
 use Rattle.stm_model.specs.Attempt.{Attempt, cause_at, cells_of}
@@ -9,7 +9,7 @@ use Rattle.stm_model.specs.Heap.{over}
 use Rattle.stm_model.specs.Moves.{AwaitsAsk}
 use Rattle.stm_model.specs.Owes.{IsPossible, Owes}
 use Rattle.stm_model.specs.Ran.{IsDecided, Ran}
-use Rattle.stm_model.specs.Refusing.{IsOfCells}
+use Rattle.stm_model.specs.Refusing.{IsOfBody, IsOfCells}
 use Rattle.stm_model.specs.Whole.{RunLate, Whole}
 use Rattle.stm_model.specs.declared.cause.Cause.{Cause}
 use Rattle.stm_model.specs.declared.note.Note.{Note}
@@ -18,7 +18,7 @@ use Rattle.txn_run.specs.Bodies as body
 use Rattle.txn_run.specs.Outcomes.{IsWord}
 use Rattle.txn_run.specs.Turns.{ComesToEnd, GaveLate, IsSince, LeftLate, as_it_was, by_late, concluded, rolled_back}
 use Rattle.txn_run.proofs.Finishing.{AbandonEnds}
-use Rattle.txn_run.proofs.Turning.{refused_word, word_decided}
+use Rattle.txn_run.proofs.Turning.{end_cause, refused_word, word_decided}
 
 -- An attempt came to its end with less to say.
 pub comes_map : (lawful : List ℕ → Type 0) (size : ℕ) (E F : List ℕ → Book → Type 0) (G K : Cause → List ℕ → Book → Type 0) (M N : List ℕ → Type 0) (u : Attempt)
@@ -26,7 +26,7 @@ pub comes_map : (lawful : List ℕ → Type 0) (size : ℕ) (E F : List ℕ → 
     → ComesToEnd lawful size E G M u → ComesToEnd lawful size F K N u
 comes_map lawful size E F G K M N u ends gives leaves comes = elim comes [
   | concluded t waits active led all ↦ concluded t waits active led (λ heap possible. let here = all heap possible in (ends heap t.now here.0, leaves heap here.1))
-  | rolled_back t cause waits active led left gave ↦ rolled_back t cause waits active led (λ heap possible. leaves heap (left heap possible)) (λ word heap possible. gives cause heap t.now (gave word heap possible))
+  | rolled_back t cause waits active of led left gave ↦ rolled_back t cause waits active of led (λ heap possible. leaves heap (left heap possible)) (λ word heap possible. gives cause heap t.now (gave word heap possible))
 ]
 
 -- Nothing is owed where nothing was written.
@@ -91,6 +91,7 @@ module _ {B T : Type 0} (means : B → List ℕ → Book → Result T Cause → 
 
     pub comes_ill : (ends : List ℕ → Book → Type 0) (v : Attempt) → AbandonEnds cause u v
         → ComesToEnd lawful size ends (λ cause heap book. Gave means late_means body heap cause book next) (λ heap. IsLeft means leaves late_means late_leaves body heap next) v
-    comes_ill ends v end = rolled_back u end.last waits active end.led (λ heap possible. body.by_run (run_left answer ran heap possible)) (λ word heap possible. ⊎_elim
+    comes_ill ends v end = rolled_back u end.last waits active
+        (end_cause u v cause end refused (subst (λ (a : Result T Cause). IfErr a (λ c. IsOfBody c ⊎ (cause_at u.stage ≡ Some c))) ill ran.causes)) end.led (λ heap possible. body.by_run (run_left answer ran heap possible)) (λ word heap possible. ⊎_elim
         (λ (known : cause_at u.stage ≡ Some end.last). absurd (refused_word u end.last refused known word))
         (λ fresh. subst (λ (c : Cause). Gave means late_means body heap c u.now next) (sym fresh.1) (gave_here fresh.0 (subst IsWord fresh.1 word) heap possible)) end.is)

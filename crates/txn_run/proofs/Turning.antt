@@ -1,6 +1,6 @@
 -- The turns of before-commit bodies, one after another.
 use Rattle.std.proofs.Common.{◌≡◌, ◌≢◌, ℕ, zero, suc, ◌^◌, ◌+◌, ◌-◌, ◌<◌, ◌≤◌, ◌⊎◌, List, [], ◌∷◌, ◌++◌, length, drop, take, Option, Some, None, Result, Ok, Err, refl, sym, ap, subst, ◌∙◌, inl, inr, ⊎_elim, arith, append_assoc}
-use Rattle.std.specs.Prelude.{IfOk, IfSome}
+use Rattle.std.specs.Prelude.{IfErr, IfOk, IfSome}
 use mathlib.Core.List.{IsPrefix}
 use Rattle.meta_word.specs.declared.status.Phase.TheVariants.{Active}
 use Rattle.stm_model.specs.After.{at}
@@ -9,7 +9,7 @@ use Rattle.stm_model.specs.CellsState.{Book}
 use Rattle.stm_model.specs.Moves.{AwaitsAsk, AwaitsAskAt}
 use Rattle.stm_model.specs.Owes.{IsPossible, Owes}
 use Rattle.stm_model.specs.Ran.{IsDecided, Ran}
-use Rattle.stm_model.specs.Refusing.{IsOfCells}
+use Rattle.stm_model.specs.Refusing.{IsOfBody, IsOfCells}
 use Rattle.stm_model.specs.Telling.{Extends}
 use Rattle.stm_model.specs.Whole.{RunLate}
 use Rattle.stm_model.specs.declared.cause.Cause.{Cause}
@@ -39,6 +39,12 @@ word_decided T cause word = absurd word
 
 pub refused_word : (t : Attempt) (cause : Cause) → IfSome (cause_at t.stage) IsOfCells → cause_at t.stage ≡ Some cause → IsWord cause → ⊥
 refused_word t cause of is word = word_of_cells cause word (subst (λ (c : Option Cause). IfSome c IsOfCells) is of)
+
+-- Who is rolled back by a body is so with a cause of cells or of a body.
+pub end_cause : (u v : Attempt) (cause : Cause) (end : AbandonEnds cause u v) → IfSome (cause_at u.stage) IsOfCells → IsOfBody cause ⊎ (cause_at u.stage ≡ Some cause) → IsOfCells end.last ⊎ IsOfBody end.last
+end_cause u v cause end refused gave = ⊎_elim
+    (λ (known : cause_at u.stage ≡ Some end.last). inl (subst (λ (c : Option Cause). IfSome c IsOfCells) known refused))
+    (λ fresh. inr (⊎_elim (λ (own : IsOfBody cause). subst IsOfBody (sym fresh.1) own) (λ (other : cause_at u.stage ≡ Some cause). absurd (cc (sym fresh.0 ∙ other))) gave)) end.is
 
 -- ---- lists
 
@@ -98,7 +104,7 @@ module _ {B : Type 0} (late_means : B → ℕ → List ℕ → Book → Result (
       | end.concluded going none led over ↦ at_end over (concluded t reached.waits reached.active led
           (λ heap possible. ((record { going = reached.since going; possible = reached.earlier heap possible }, subst (λ (tokens : List ℕ). RunLate late_means heap tokens body before t.now left) (take_whole t.now.laters t.turn none) (reached.ran going heap possible)),
           (reached.earlier heap possible, reached.leaves heap possible))))
-      | end.rolled_back cause is led over ↦ at_end over (rolled_back t cause reached.waits reached.active led (λ heap possible. (reached.earlier heap possible, reached.leaves heap possible))
+      | end.rolled_back cause is led over ↦ at_end over (rolled_back t cause reached.waits reached.active (inl (subst (λ (c : Option Cause). IfSome c IsOfCells) is reached.refused)) led (λ heap possible. (reached.earlier heap possible, reached.leaves heap possible))
           (λ word. absurd (refused_word t cause reached.refused is word)))
     ]
 
@@ -147,7 +153,8 @@ module _ {B : Type 0} (late_means : B → ℕ → List ℕ → Book → Result (
       }
 
       pub turned_ill : (cause : Cause) (v : Attempt) → answer ≡ Err cause → AbandonEnds cause u v → Turning Going late_means late_leaves lawful may size body reads before v left
-      turned_ill cause v is ends = at_end ends.over (rolled_back u ends.last waits active ends.led (λ heap possible. (turn.earlier heap (earlier heap possible), leaves_so heap possible)) (λ word heap possible. (record { going = turn.going; possible = turn.earlier heap (earlier heap possible) }, ⊎_elim
+      turned_ill cause v is ends = at_end ends.over (rolled_back u ends.last waits active
+          (end_cause u v cause ends refused (subst (λ (a : Result (Unit {0}) Cause). IfErr a (λ c. IsOfBody c ⊎ (cause_at u.stage ≡ Some c))) is ran.causes)) ends.led (λ heap possible. (turn.earlier heap (earlier heap possible), leaves_so heap possible)) (λ word heap possible. (record { going = turn.going; possible = turn.earlier heap (earlier heap possible) }, ⊎_elim
           (λ (known : cause_at u.stage ≡ Some ends.last). absurd (refused_word u ends.last refused known word))
           (λ fresh. subst (λ (c : Cause). GaveLate late_means heap c body before u.now left) (sym fresh.1) (gave_so cause is fresh.0 (subst IsWord fresh.1 word) heap possible)) ends.is)))
 

@@ -1,5 +1,5 @@
 -- Private: the turns of before-commit bodies, and how an attempt comes to its end.
-use Rattle.std.specs.Prelude.{◌≡◌, ◌≢◌, ℕ, suc, ◌<◌, ◌-◌, ◌^◌, List, [], ◌∷◌, ◌++◌, drop, take, IsSome, Option, Some, None, Result, Ok, Err}
+use Rattle.std.specs.Prelude.{◌≡◌, ◌≢◌, ℕ, suc, ◌<◌, ◌-◌, ◌^◌, ◌⊎◌, List, [], ◌∷◌, ◌++◌, drop, take, IsSome, Option, Some, None, Result, Ok, Err}
 use mathlib.Core.List.{IsPrefix}
 use Rattle.meta_word.specs.declared.status.Phase.TheVariants.{Active}
 use Rattle.stm_model.specs.After.{rolled}
@@ -7,7 +7,7 @@ use Rattle.stm_model.specs.Attempt.{Attempt, Late, Stage, cause_at}
 use Rattle.stm_model.specs.CellsState.{Book}
 use Rattle.stm_model.specs.Moves.{AwaitsAsk, conclude}
 use Rattle.stm_model.specs.Owes.{IsPossible, Owes}
-use Rattle.stm_model.specs.Refusing.{IsOfBody}
+use Rattle.stm_model.specs.Refusing.{IsOfBody, IsOfCells}
 use Rattle.stm_model.specs.Whole.{RunLate}
 use Rattle.stm_model.specs.declared.cause.Cause.{Cause}
 use Rattle.stm_model.specs.declared.ending.Ending.{Ending}
@@ -63,11 +63,11 @@ pub record InTurn {B : Type 0} (Going : Type 0) (late_means : B → ℕ → List
   pub ran : (heap : List ℕ) → IsPossible lawful size t.notes heap → RunLate late_means heap (take done t.now.laters) body before t.now left
   pub leaves : (heap : List ℕ) → IsPossible lawful size t.notes heap → LeftLate Going late_means late_leaves heap body before left
 
--- An attempt came to its end from this one, whose body, or whose before-commit body, was over then. On each heap that is possible by its notes, `ends` holds where all ran well, `gives` where one answered a cause of its own, and `leaves` in each case.
+-- An attempt came to its end from this one, whose body, or whose before-commit body, was over then. On each heap that is possible by its notes, `ends` holds where all ran well, `gives` where one answered a cause of its own, and `leaves` in each case. Who was rolled back then was so with a cause of cells or of a body.
 pub data ComesToEnd (lawful : List ℕ → Type 0) (size : ℕ) (ends : List ℕ → Book → Type 0) (gives : Cause → List ℕ → Book → Type 0) (leaves : List ℕ → Type 0) (u : Attempt) : Type 0 where
   concluded : (t : Attempt) → AwaitsAsk t → t.phase ≡ Active → IsLed (conclude t t.now.writes) u
       → ((heap : List ℕ) → IsPossible lawful size t.notes heap → ends heap t.now × leaves heap) → ComesToEnd lawful size ends gives leaves u
-  rolled_back : (t : Attempt) (cause : Cause) → AwaitsAsk t → t.phase ≡ Active → IsLed (rolled t cause) u
+  rolled_back : (t : Attempt) (cause : Cause) → AwaitsAsk t → t.phase ≡ Active → IsOfCells cause ⊎ IsOfBody cause → IsLed (rolled t cause) u
       → ((heap : List ℕ) → IsPossible lawful size t.notes heap → leaves heap)
       → (IsWord cause → (heap : List ℕ) → IsPossible lawful size t.notes heap → gives cause heap t.now) → ComesToEnd lawful size ends gives leaves u
 

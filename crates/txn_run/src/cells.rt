@@ -10,7 +10,7 @@ ghost use Rattle.stm_model.specs.Refusing.{IsOfCells, deepest};
 ghost use Rattle.stm_model.specs.Telling.{Witness};
 ghost use Rattle.txn_drive.specs.Moment.{moment};
 ghost use Rattle.txn_run.specs.Flights.{IsHere, IsOfBodies, Tells, Went, cells_in_stm, state_on, told_at};
-ghost use Rattle.txn_run.specs.Facts.{AreWords-prop, IsAnswer-prop, went_on, went_self};
+ghost use Rattle.txn_run.specs.Facts.{AreWords-prop, IsAnswer-prop, went_on, went_self, witness_map};
 
 use crate::flights::Flight;
 use ref_table::{Seat, Stm};
@@ -21,13 +21,17 @@ use txn_drive::Ask;
 pub trait HeapLaw: Law {
     ghost heaps: { Self → List ℕ → Type 0 };
 
-    ghost is_lawful: { (law : Self) → heaps law ≡ Self.lawful law };
+    ghost lawful_of: { (law : Self) (heap : List ℕ) → heaps law heap → Self.lawful law heap };
+
+    ghost heaps_of: { (law : Self) (heap : List ℕ) → Self.lawful law heap → heaps law heap };
 }
 
 impl<L: Law> HeapLaw for L {
     ghost heaps = { L.lawful };
 
-    ghost is_lawful = { λ _. refl };
+    ghost lawful_of = { λ _ _ lawful. lawful };
+
+    ghost heaps_of = { λ _ _ lawful. lawful };
 }
 
 /// The cells of an attempt. Calls of it go to the shared table, by the seat of its caller.
@@ -81,7 +85,7 @@ impl<'a, L: HeapLaw, R: Bell, H: Hooks> Cells<L> for Txn<'a, L, R, H> {
 
     ghost follows_trans = { λ first second third one two. (two.0 ∙ one.0, two.1 ∙ one.1, two.2 ∙ one.2, two.3 ∙ one.3, two.4 ∙ one.4, went_on _ _ _ one.5 two.5) };
 
-    ghost witness = { λ cells. subst (λ heaps. ∥ Witness heaps (cells_in_stm cells.stm.now) cells.flight.now.attempt.notes ∥₁) (L.is_lawful cells.stm.now.law) cells.witness };
+    ghost witness = { λ cells. ∥∥₁_map cells.witness (witness_map _ _ _ _ (L.lawful_of cells.stm.now.law)) };
 
     ghost words = { λ cells. cells.words };
 

@@ -1,6 +1,5 @@
-use Rattle.std.proofs.Common.{◌≡◌, sym, subst}
 use Rattle.ref_table.specs.Seats.{terms_in}
-use Rattle.stm_model.specs.Telling.{Witness}
+use Rattle.txn_run.specs.Facts.{witness_map}
 use Rattle.txn_run.specs.Flights.{cells_in_stm}
 use Rattle.txn_run.proofs.Standing.{asked_going, asked_tells, asked_turn, knows_here, may_be_asked}
 use Rattle.txn_run.proofs.cells.Txn.ask.Goals as goal
@@ -20,7 +19,7 @@ invariant_of-self g c =
     record {
       here = c.ask.ensures.here;
       going = going;
-      witness = subst (λ heaps. ∥ Witness heaps (cells_in_stm stm) c.ask.new.self.attempt.notes ∥₁) (sym (g.met.L.HeapLaw.is_lawful stm.law)) ∣ knows.witness ∣₁;
+      witness = ∣ witness_map (g.L.Law.lawful stm.law) (g.L.HeapLaw.heaps stm.law) (cells_in_stm stm) c.ask.new.self.attempt.notes (g.met.L.HeapLaw.heaps_of stm.law) knows.witness ∣₁;
       words = knows.words;
       answered = knows.answered;
       deep = knows.deep;

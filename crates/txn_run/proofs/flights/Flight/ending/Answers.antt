@@ -9,9 +9,9 @@ use Rattle.txn_run.proofs.flights.Flight.ending.Goals as goal
 pub unreachable-requires : goal.unreachable-requires
 unreachable-requires g c =
     let was = ap (λ (flight : FlightState _). flight.attempt) c.self.view_is in
-    has_ended (shown c.self.inside.running) c.next.result (subst IsOver (sym was) c.requires) c.next.ensures.next ?
+    has_ended (shown c.self.inside.running) c.next.result (subst IsOver (sym was) c.requires) c.next.ensures.next (sym c.ending_of.ensures ∙ c.in-None.is)
 
 pub returns : goal.returns
 returns g c =
     let was = ap (λ (flight : FlightState _). flight.attempt) c.self.view_is in
-    ap (λ (a : Attempt). a.ending) (sym was) ∙ (sym (ending_next (shown c.self.inside.running) c.next.result (subst IsOver (sym was) c.requires) c.next.ensures.next) ∙ ?)
+    ap (λ (a : Attempt). a.ending) (sym was) ∙ (sym (ending_next (shown c.self.inside.running) c.next.result (subst IsOver (sym was) c.requires) c.next.ensures.next) ∙ (sym c.ending_of.ensures ∙ c.in-Some.is))
