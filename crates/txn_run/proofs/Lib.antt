@@ -8,6 +8,7 @@ pub mod Finishing
 pub mod HandlersRun
 pub mod Kept
 pub mod Known
+pub mod Lending
 pub mod Possible
 pub mod Reaching
 pub mod Reading

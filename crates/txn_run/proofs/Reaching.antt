@@ -14,7 +14,7 @@ use Rattle.stm_model.specs.Whole.{RunLate, Whole}
 use Rattle.stm_model.specs.declared.cause.Cause.{Cause}
 use Rattle.stm_model.specs.declared.note.Note.{Note}
 use Rattle.txn_run.specs.Bodies.{Gave, IsLeft, RanTo}
-use Rattle.txn_run.specs.Bodies as body
+use Rattle.txn_run.specs.Bodies as so
 use Rattle.txn_run.specs.Outcomes.{IsWord}
 use Rattle.txn_run.specs.Turns.{ComesToEnd, GaveLate, IsSince, LeftLate, as_it_was, by_late, concluded, rolled_back}
 use Rattle.txn_run.proofs.Finishing.{AbandonEnds}
@@ -63,13 +63,13 @@ module _ {B T : Type 0} (means : B → List ℕ → Book → Result T Cause → 
 
       gave_then : (cause : Cause) (heap : List ℕ) (book : Book) → (IsSince (cause_at u.stage ≡ None) lawful size u.notes heap × GaveLate late_means heap cause next u.now book left) → Gave means late_means body heap cause book left
       gave_then cause heap book here = let gave = here.1 in
-          body.in_late gave.tokens gave.token out gave.then gave.next (ran_to heap gave.tokens gave.token gave.then gave.next here.0 gave.ran gave.front) gave.front gave.gave
+          so.in_late gave.tokens gave.token out gave.then gave.next (ran_to heap gave.tokens gave.token gave.then gave.next here.0 gave.ran gave.front) gave.front gave.gave
 
       left_then : (heap : List ℕ) → (IsPossible lawful size u.notes heap × LeftLate (cause_at u.stage ≡ None) late_means late_leaves heap next u.now left) → IsLeft means leaves late_means late_leaves body heap left
       left_then heap here = elim here.1 [
-        | as_it_was same ↦ body.by_run (subst (λ (b : B). leaves body heap empty_book b) (sym same) (run_left heap here.0))
+        | as_it_was same ↦ so.by_run (subst (λ (b : B). leaves body heap empty_book b) (sym same) (run_left heap here.0))
         | by_late going tokens token book then lates front leaving ↦
-            body.by_late tokens token out book then (ran_to heap tokens token book then (record { going = going; possible = here.0 }) lates front) front leaving
+            so.by_late tokens token out book then (ran_to heap tokens token book then (record { going = going; possible = here.0 }) lates front) front leaving
       ]
 
       -- The attempt came to its end from there.
@@ -86,12 +86,12 @@ module _ {B T : Type 0} (means : B → List ℕ → Book → Result T Cause → 
       (ran : Ran lawful may (λ heap before answer after. means body heap before answer after next) (λ heap before. leaves body heap before next) answer (cells_of size t) (cells_of size u))
       (waits : AwaitsAsk u) (active : u.phase ≡ Active) (refused : IfSome (cause_at u.stage) IsOfCells) where
     gave_here : cause_at u.stage ≡ None → IsWord cause → (heap : List ℕ) → IsPossible lawful size u.notes heap → Gave means late_means body heap cause u.now next
-    gave_here going word heap possible = body.in_run (subst (λ (a : Result T Cause). means body heap empty_book a u.now next) ill
+    gave_here going word heap possible = so.in_run (subst (λ (a : Result T Cause). means body heap empty_book a u.now next) ill
         (run_whole answer ran going (subst IsDecided (sym ill) (word_decided T cause word)) heap possible))
 
     pub comes_ill : (ends : List ℕ → Book → Type 0) (v : Attempt) → AbandonEnds cause u v
         → ComesToEnd lawful size ends (λ cause heap book. Gave means late_means body heap cause book next) (λ heap. IsLeft means leaves late_means late_leaves body heap next) v
     comes_ill ends v end = rolled_back u end.last waits active
-        (end_cause u v cause end refused (subst (λ (a : Result T Cause). IfErr a (λ c. IsOfBody c ⊎ (cause_at u.stage ≡ Some c))) ill ran.causes)) end.led (λ heap possible. body.by_run (run_left answer ran heap possible)) (λ word heap possible. ⊎_elim
+        (end_cause u v cause end refused (subst (λ (a : Result T Cause). IfErr a (λ c. IsOfBody c ⊎ (cause_at u.stage ≡ Some c))) ill ran.causes)) end.led (λ heap possible. so.by_run (run_left answer ran heap possible)) (λ word heap possible. ⊎_elim
         (λ (known : cause_at u.stage ≡ Some end.last). absurd (refused_word u end.last refused known word))
         (λ fresh. subst (λ (c : Cause). Gave means late_means body heap c u.now next) (sym fresh.1) (gave_here fresh.0 (subst IsWord fresh.1 word) heap possible)) end.is)

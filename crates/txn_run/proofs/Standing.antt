@@ -15,8 +15,10 @@ use Rattle.stm_model.specs.declared.access.Ask.TheVariants.{Abandon, Enter, Fini
 use Rattle.stm_model.specs.declared.settings.Settings.{Settings}
 use Rattle.txn_drive.specs.Begun.{IsBegun}
 use Rattle.txn_drive.specs.Going.{IsAsked}
+use Rattle.stm_model.specs.Handlers.{Handlers}
+use Rattle.txn_drive.specs.Moment.{Moment, moment}
 use Rattle.txn_drive.specs.Standing.{IsOn, IsOver, Rests}
-use Rattle.txn_run.specs.Flights.{IsOfBodies, MayBeAsked, Stands, Tells, cells_in_stm, state_on, told_at}
+use Rattle.txn_run.specs.Flights.{FlightState, IsHere, IsOfBodies, MayBeAsked, Stands, Tells, Went, cells_in_stm, state_on, told_at}
 use Rattle.txn_run.proofs.Calling.{AskEnds, ask_ends}
 use Rattle.txn_run.proofs.Finishing.{FinishEnds, abandon_ends, concluded, finish_ends, late, rolled_back}
 use Rattle.txn_run.proofs.Known.{witness_here, words_here}
@@ -139,3 +141,20 @@ knows_here lawful may terms seat t going stands = record {
   answered = stands.refused;
   deep = stands.deep going;
 }
+
+-- What is known of a flight is known of the table and the seat that it is on.
+pub stands_here : {S : Type 0} (lawful : S → List ℕ → Type 0) (may : S → List ℕ → List ℕ → Type 0) (stm : StmState S) (seat : SeatState) (flight : FlightState S) → IsHere stm seat flight
+    → Stands (lawful flight.stm.law) (may flight.stm.law) (terms_in flight.stm) flight.seat flight.attempt → Stands (lawful stm.law) (may stm.law) (terms_in stm) seat flight.attempt
+stands_here lawful may stm seat flight here stands =
+    subst (λ (s : SeatState). Stands (lawful stm.law) (may stm.law) (terms_in stm) s flight.attempt) here.knows
+    (subst (λ (s : StmState _). Stands (lawful s.law) (may s.law) (terms_in s) flight.seat flight.attempt) here.table stands)
+
+pub here_so : {S : Type 0} (stm stm_then : StmState S) (seat seat_then : SeatState) (flight flight_then : FlightState S) → IsHere stm seat flight → stm ≡ stm_then → seat ≡ seat_then → flight ≡ flight_then → IsHere stm_then seat_then flight_then
+here_so stm stm_then seat seat_then flight flight_then here one two three = record {
+  table = sym (ap (λ (f : FlightState _). f.stm) three) ∙ (here.table ∙ one);
+  knows = sym (ap (λ (f : FlightState _). f.seat) three) ∙ (here.knows ∙ two);
+}
+
+pub went_so : (m : Moment) (seat seat_then : SeatState) (t u : Attempt) (runs runs_then : Option Handlers) (rings rings_then : Option (List ℕ)) → Went m (moment seat t runs rings)
+    → seat ≡ seat_then → t ≡ u → runs ≡ runs_then → rings ≡ rings_then → Went m (moment seat_then u runs_then rings_then)
+went_so m seat seat_then t u runs runs_then rings rings_then went one two three four = subst (Went m) (λ i. moment (one i) (two i) (three i) (four i)) went

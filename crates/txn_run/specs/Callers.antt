@@ -5,15 +5,19 @@ use Rattle.ref_table.specs.Seats.{SeatState, StmState, terms_in}
 use Rattle.ref_table.specs.Seen.{SafeSeat}
 use Rattle.stm_model.specs.Attempt.{Attempt, Ended}
 use Rattle.stm_model.specs.Handlers.{Handlers}
+use Rattle.stm_model.specs.History.{Entry}
+use Rattle.stm_model.specs.World.{View}
 
--- what a caller's seat knows, and the handlers run and the cells rung for so far, where they are told
+-- a caller's number, what it knows, the entries of the history that it has seen, and the handlers run and the cells rung for so far, where they are told
 pub record CallerState : Type 0 where
-  pub seat : SeatState
+  pub number : ℕ
+  pub view : View
+  pub seen : List Entry
   pub runs : Option Handlers
   pub rings : Option (List ℕ)
 
 abbrev pub caller_of : SeatState → Option Handlers → Option (List ℕ) → CallerState
-caller_of seat runs rings = record { seat = seat; runs = runs; rings = rings }
+caller_of seat runs rings = record { number = seat.number; view = seat.view; seen = seat.seen; runs = runs; rings = rings }
 
 -- the latest attempt of a seat's caller
 abbrev pub attempt_in : SeatState → Attempt

@@ -22,33 +22,33 @@ use Rattle.txn_run.specs.declared.callers.Outcome.TheVariants as with
 
 -- The caller made one attempt more. It has seen what it had seen before and maybe more, what the attempt read is no older, and it was rung for the cells that the attempt released where somebody waited.
 pub record Made (attempts : ℕ) (before after : CallerState) : Type 0 where
-  pub grows : IsPrefix before.seat.seen after.seat.seen
-  pub serial : (attempt_in after.seat).serial ≡ suc (attempt_in before.seat).serial
-  pub within : (attempt_in before.seat).serial < attempts
-  pub fresh : length before.seat.seen ≤ (attempt_in after.seat).prefix
-  pub waits : after.seat.view.waits ≡ before.seat.view.waits
-  pub rings : TellsMore before.rings after.rings (attempt_in after.seat).rings
+  pub grows : IsPrefix before.seen after.seen
+  pub serial : after.view.attempt.serial ≡ suc before.view.attempt.serial
+  pub within : before.view.attempt.serial < attempts
+  pub fresh : length before.seen ≤ after.view.attempt.prefix
+  pub waits : after.view.waits ≡ before.view.waits
+  pub rings : TellsMore before.rings after.rings after.view.attempt.rings
 
 -- It committed with this stamp: the entry at that place is the attempt's and its caller's only new one, and on the heap before it the body and its before-commit bodies ran to this end.
 pub record CommittedAs {T : Type 0} (ends : T → List ℕ → Book → Type 0) (opening : List ℕ) (before after : CallerState) (out : T) (stamp : ℕ) : Type 0 where
-  pub ending : (attempt_in after.seat).ending ≡ Some (Committed stamp)
-  pub low : length before.seat.seen < stamp
-  pub high : stamp ≤ length after.seat.seen
-  pub entry : entry_after after.seat.seen (stamp - 1) ≡ entry_of (attempt_in after.seat)
-  pub only : (n : ℕ) → length before.seat.seen ≤ n → n < length after.seat.seen → (entry_after after.seat.seen n).caller ≡ before.seat.number → n ≡ stamp - 1
+  pub ending : after.view.attempt.ending ≡ Some (Committed stamp)
+  pub low : length before.seen < stamp
+  pub high : stamp ≤ length after.seen
+  pub entry : entry_after after.seen (stamp - 1) ≡ entry_of after.view.attempt
+  pub only : (n : ℕ) → length before.seen ≤ n → n < length after.seen → (entry_after after.seen n).caller ≡ before.number → n ≡ stamp - 1
   pub book : Book
-  pub has : HasBook (attempt_in after.seat) book
-  pub whole : ends out (state opening after.seat.seen (stamp - 1)) book
+  pub has : HasBook after.view.attempt book
+  pub whole : ends out (state opening after.seen (stamp - 1)) book
   pub runs : TellsMore before.runs after.runs (book.runs ++ completing book.hooks)
 
 -- It wrote nothing and read the heap at this prefix, on which the body and its before-commit bodies ran to this end.
 pub record ReadAs {T : Type 0} (ends : T → List ℕ → Book → Type 0) (opening : List ℕ) (before after : CallerState) (out : T) (prefix : ℕ) : Type 0 where
-  pub ending : (attempt_in after.seat).ending ≡ Some (Read prefix)
-  pub none : HasNoneOf before.seat.number before.seat.seen after.seat.seen
+  pub ending : after.view.attempt.ending ≡ Some (Read prefix)
+  pub none : HasNoneOf before.number before.seen after.seen
   pub book : Book
-  pub has : HasBook (attempt_in after.seat) book
+  pub has : HasBook after.view.attempt book
   pub nothing : book.writes ≡ []
-  pub whole : ends out (state opening after.seat.seen prefix) book
+  pub whole : ends out (state opening after.seen prefix) book
   pub runs : TellsMore before.runs after.runs (book.runs ++ completing book.hooks)
 
 -- a body's own word, which the heap decides
@@ -61,13 +61,13 @@ IsWord cause = ⊥
 -- It was rolled back. A retry, a failure and a Full are what the body answered on the heap at this prefix. At the clock's end it had written something and run to its end there. However it came, the body is left as a run there leaves it.
 pub record RolledAs {T : Type 0} (ends : T → List ℕ → Book → Type 0) (gives : Cause → List ℕ → Book → Type 0) (leaves : List ℕ → Type 0)
     (opening : List ℕ) (before after : CallerState) (cause : Cause) (prefix : ℕ) : Type 0 where
-  pub ending : (attempt_in after.seat).ending ≡ Some (Rolled cause prefix)
-  pub none : HasNoneOf before.seat.number before.seat.seen after.seat.seen
+  pub ending : after.view.attempt.ending ≡ Some (Rolled cause prefix)
+  pub none : HasNoneOf before.number before.seen after.seen
   pub book : Book
-  pub has : HasBook (attempt_in after.seat) book
-  pub answered : IsWord cause → gives cause (state opening after.seat.seen prefix) book
-  pub at_end : (clock : ℕ) → cause ≡ ClockEnd clock → (out : T) × ends out (state opening after.seat.seen prefix) book × (0 < length book.writes)
-  pub left : leaves (state opening after.seat.seen prefix)
+  pub has : HasBook after.view.attempt book
+  pub answered : IsWord cause → gives cause (state opening after.seen prefix) book
+  pub at_end : (clock : ℕ) → cause ≡ ClockEnd clock → (out : T) × ends out (state opening after.seen prefix) book × (0 < length book.writes)
+  pub left : leaves (state opening after.seen prefix)
   pub prepared : Bool
   pub unprepared : IsOfBody cause → prepared ≡ false
   pub runs : TellsMore before.runs after.runs (book.runs ++ failing prepared book.hooks)
@@ -81,8 +81,8 @@ ConcludesAs ends gives leaves opening before after (with.Rolled cause prefix) = 
 
 -- All attempts that there may be were made, so none was: the prefix is the clock as it was loaded last, and nothing else changed.
 pub record IsSpent {T : Type 0} (attempts : ℕ) (untouched : Type 0) (before after : CallerState) (outcome : Outcome T) : Type 0 where
-  pub spent : (attempt_in before.seat).serial ≡ attempts
-  pub ends : outcome ≡ with.Rolled (AttemptsEnd attempts) before.seat.view.clock
+  pub spent : before.view.attempt.serial ≡ attempts
+  pub ends : outcome ≡ with.Rolled (AttemptsEnd attempts) before.view.clock
   pub same : after ≡ before
   pub body : untouched
 

@@ -12,12 +12,12 @@ use ref_table::{Seat, Stm};
 use stm_model::{Bell, Body, Cause, Hooks, Law};
 
 /// Runs the body on the cells of the attempt.
-pub fn run_body<L: Law, R: Bell, H: Hooks, B: Body<L>>(
-    seat: &mut Seat<L>,
-    stm: &Stm<L>,
-    bell: &mut R,
-    hooks: &mut H,
-    flight: &mut Flight<L>,
+pub fn run_body<'a, L: Law, R: Bell, H: Hooks, B: Body<L>>(
+    seat: &'a mut Seat<L>,
+    stm: &'a Stm<L>,
+    bell: &'a mut R,
+    hooks: &'a mut H,
+    flight: &'a mut Flight<L>,
     body: &mut B,
 ) -> Result<B::Out, Cause>
     requires here { IsHere stm.now seat.old flight.old }
@@ -53,12 +53,12 @@ pub fn run_body<L: Law, R: Bell, H: Hooks, B: Body<L>>(
 }
 
 /// Runs the before-commit body that the body registered under this token.
-pub fn run_late<L: Law, R: Bell, H: Hooks, B: Body<L>>(
-    seat: &mut Seat<L>,
-    stm: &Stm<L>,
-    bell: &mut R,
-    hooks: &mut H,
-    flight: &mut Flight<L>,
+pub fn run_late<'a, L: Law, R: Bell, H: Hooks, B: Body<L>>(
+    seat: &'a mut Seat<L>,
+    stm: &'a Stm<L>,
+    bell: &'a mut R,
+    hooks: &'a mut H,
+    flight: &'a mut Flight<L>,
     body: &mut B,
     token: u64,
 ) -> Result<(), Cause>
@@ -94,5 +94,10 @@ pub fn run_late<L: Law, R: Bell, H: Hooks, B: Body<L>>(
     answer
 }
 
-// What was borrowed for an attempt is there again.
-fn touch<A, B, C, D>(_seat: &A, _bell: &B, _hooks: &C, _flight: &D) {}
+// What was lent to an attempt is there again.
+fn touch<S, R, H, F>(_seat: &mut S, _bell: &mut R, _hooks: &mut H, _flight: &mut F)
+    ensures seat { _seat.new ≡ _seat.old }
+    ensures bell { _bell.new ≡ _bell.old }
+    ensures hooks { _hooks.new ≡ _hooks.old }
+    ensures flight { _flight.new ≡ _flight.old }
+{}

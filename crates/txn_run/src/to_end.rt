@@ -1,6 +1,7 @@
 //! From the end of a body to the end of its attempt.
-ghost use Rattle.std.specs.Prelude.{◌≡◌, ◌≢◌, ◌↔◌, ◌<◌, ◌^◌, ℕ, List, None};
+ghost use Rattle.std.specs.Prelude.{◌≡◌, ◌≢◌, ◌↔◌, ◌<◌, ◌^◌, ℕ, List, None, Option};
 ghost use Rattle.stm_model.specs.Attempt.{Ended, Late, cause_at};
+ghost use Rattle.stm_model.specs.declared.cause.Cause.{Cause};
 ghost use Rattle.stm_model.specs.declared.note.Note.{Note};
 ghost use Rattle.stm_model.specs.CellsState.{Book};
 ghost use Rattle.stm_model.specs.Owes.{IsPossible, Owes};
@@ -67,8 +68,8 @@ fn take_turn<L: Law, R: Bell, H: Hooks, B: Body<L>>(
     requires within { flight.old.attempt.turn < 2 ^ 64 }
     ensures here { IsHere stm.now seat.new flight.new }
     ensures continues { Continues (moment seat.old flight.old.attempt (H.runs hooks.old) (R.rings bell.old)) (moment seat.new flight.new.attempt (H.runs hooks.new) (R.rings bell.new)) }
-    ensures turns { (Going : Type 0) (first : B) (reads : List Note) (before : Book) → InTurn Going B.late_means B.late_leaves (L.lawful stm.now.law) (L.may stm.now.law) (cells_in_stm stm.now) first reads before flight.old.attempt body.old →
-        Turning Going B.late_means B.late_leaves (L.lawful stm.now.law) (L.may stm.now.law) (cells_in_stm stm.now) first reads before flight.new.attempt body.new }
+    ensures turns { (refused : Option Cause) (first : B) (reads : List Note) (before : Book) → InTurn (refused ≡ None) B.late_means B.late_leaves (L.lawful stm.now.law) (L.may stm.now.law) (cells_in_stm stm.now) first reads before flight.old.attempt body.old →
+        Turning (refused ≡ None) B.late_means B.late_leaves (L.lawful stm.now.law) (L.may stm.now.law) (cells_in_stm stm.now) first reads before flight.new.attempt body.new }
     ensures falls { turns_left flight.new.attempt.stage flight.new.attempt.turn < turns_left flight.old.attempt.stage flight.old.attempt.turn }
     ensures fits { (law : L) (size : ℕ) → B.fits body.old law size ↔ B.fits body.new law size }
 {
