@@ -14,5 +14,6 @@ pub mod Reaching
 pub mod Reading
 pub mod Refused
 pub mod Standing
+pub mod Turned
 pub mod Turning
 pub mod Writing
