@@ -9,6 +9,7 @@ pub mod HandlersRun
 pub mod Kept
 pub mod Known
 pub mod Lending
+pub mod Looping
 pub mod Possible
 pub mod Reaching
 pub mod Reading

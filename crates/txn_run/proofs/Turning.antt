@@ -75,14 +75,14 @@ module _ {B : Type 0} (late_means : B → ℕ → List ℕ → Book → Result (
   module _ (Going : Type 0) (lawful : List ℕ → Type 0) (may : List ℕ → List ℕ → Type 0) (size : ℕ) (body : B) (reads : List Note) (before : Book) where
     -- What is known of an attempt whose body, or whose before-commit body, is over.
     pub record IsReached (t : Attempt) (left : B) : Type 0 where
-      waits : AwaitsAsk t
-      active : t.phase ≡ Active
-      refused : IfSome (cause_at t.stage) IsOfCells
-      owes : cause_at t.stage ≡ None → Owes lawful may size t.notes t.now.writes
-      since : cause_at t.stage ≡ None → Going
-      earlier : (heap : List ℕ) → IsPossible lawful size t.notes heap → IsPossible lawful size reads heap
-      ran : cause_at t.stage ≡ None → (heap : List ℕ) → IsPossible lawful size t.notes heap → RunLate late_means heap (take t.turn t.now.laters) body before t.now left
-      leaves : (heap : List ℕ) → IsPossible lawful size t.notes heap → LeftLate Going late_means late_leaves heap body before left
+      pub waits : AwaitsAsk t
+      pub active : t.phase ≡ Active
+      pub refused : IfSome (cause_at t.stage) IsOfCells
+      pub owes : cause_at t.stage ≡ None → Owes lawful may size t.notes t.now.writes
+      pub since : cause_at t.stage ≡ None → Going
+      pub earlier : (heap : List ℕ) → IsPossible lawful size t.notes heap → IsPossible lawful size reads heap
+      pub ran : cause_at t.stage ≡ None → (heap : List ℕ) → IsPossible lawful size t.notes heap → RunLate late_means heap (take t.turn t.now.laters) body before t.now left
+      pub leaves : (heap : List ℕ) → IsPossible lawful size t.notes heap → LeftLate Going late_means late_leaves heap body before left
 
     pub turning_from : (t u : Attempt) (left : B) → IsReached t left → FinishEnds t u → Turning Going late_means late_leaves lawful may size body reads before u left
     unfolding AwaitsAskAt
