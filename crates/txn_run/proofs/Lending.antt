@@ -1,5 +1,5 @@
 -- A seat with other lists, and the attempt that begins on it.
-use Rattle.std.proofs.Common.{◌≡◌, ℕ, ◌<◌, List, Option, Some, refl, sym, ap, subst, ◌∙◌}
+use Rattle.std.proofs.Common.{◌≡◌, ℕ, ◌<◌, List, Option, Some, refl, sym, ap, subst, ◌∙◌, arith}
 use Rattle.ref_table.specs.Calls.{AreEmpty}
 use Rattle.ref_table.specs.Seats.{SeatState, StmState, terms_in}
 use Rattle.ref_table.specs.Seen.{SafeSeat}
@@ -9,6 +9,7 @@ use Rattle.stm_model.specs.CellsState.{Book}
 use Rattle.stm_model.specs.Handlers.{Handlers}
 use Rattle.stm_model.specs.World.{Terms}
 use Rattle.stm_model.specs.declared.cause.Cause.{Cause}
+use Rattle.stm_model.specs.declared.note.Note.{Note}
 use Rattle.stm_model.specs.declared.settings.Settings.{Settings}
 use Rattle.txn_drive.specs.Begun.{IsBegun}
 use Rattle.txn_drive.specs.Going.{Continues}
@@ -95,3 +96,23 @@ module _ {S T : Type 0} (lawful : List ℕ → Type 0) (may : List ℕ → List 
   pub concludes_so : (outcome : Outcome T) → EndsAs lawful (cells_in_stm stm) ends gives leaves u outcome
       → ConcludesAs ends gives leaves stm.opening (caller_of before runs rings) (caller_of after runs_then rings_then) outcome
   concludes_so outcome so = subst (λ c. ConcludesAs ends gives leaves stm.opening c (caller_of after runs_then rings_then) outcome) same_caller (concludes_lent outcome so)
+
+  -- ---- its caller afterwards
+
+  pub known_over : (attempt_in after).stage ≡ Ended
+  known_over = sym (ap (λ (a : Attempt). a.stage) (on.over over.stage).is) ∙ over.stage
+
+  pub known_notes : (notes : List Note) → notes ≡ u.notes → notes ≡ (attempt_in after).notes
+  known_notes notes is = is ∙ ap (λ (a : Attempt). a.notes) (on.over over.stage).is
+
+  pub begins_again : (outcome : Outcome T) → EndsAs lawful (cells_in_stm stm) ends gives leaves u outcome → MayBegin lawful may stm after
+  begins_again outcome so =
+      let made = made_so outcome so in
+      let serial = made.serial in
+      let within = made.within in record {
+        table = continues.seat.same.table ∙ (begun.seat.same.table ∙ able.table);
+        safe = on.safe;
+        over = known_over;
+        attempts = omega (arith, serial, within);
+        lists = subst AreEmpty (sym (continues.seat.same.lists ∙ begun.seat.same.lists)) able.lists;
+      }

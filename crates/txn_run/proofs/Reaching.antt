@@ -16,7 +16,11 @@ use Rattle.stm_model.specs.declared.note.Note.{Note}
 use Rattle.txn_run.specs.Bodies.{Gave, IsLeft, RanTo}
 use Rattle.txn_run.specs.Bodies as so
 use Rattle.txn_run.specs.Outcomes.{IsWord}
-use Rattle.txn_run.specs.Turns.{ComesToEnd, GaveLate, IsSince, LeftLate, as_it_was, by_late, concluded, rolled_back}
+use Rattle.stm_model.specs.declared.ending.Ending.{Ending}
+use Rattle.stm_model.specs.declared.ending.Ending.TheVariants.{Committed, Read, Rolled}
+use Rattle.txn_run.specs.declared.callers.Outcome.{Outcome}
+use Rattle.txn_run.specs.Turns.{ComesToEnd, EndsAs, GaveLate, IsOutcome, IsSince, LeftLate, MayEnd, as_it_was, by_late, concluded, rolled_back}
+use Rattle.txn_run.proofs.Ending.{rolled_ends}
 use Rattle.txn_run.proofs.Finishing.{AbandonEnds}
 use Rattle.txn_run.proofs.Turning.{end_cause, refused_word, word_decided}
 
@@ -95,3 +99,22 @@ module _ {B T : Type 0} (means : B → List ℕ → Book → Result T Cause → 
         (end_cause u v cause end refused (subst (λ (a : Result T Cause). IfErr a (λ c. IsOfBody c ⊎ (cause_at u.stage ≡ Some c))) ill ran.causes)) end.led (λ heap possible. so.by_run (run_left answer ran heap possible)) (λ word heap possible. ⊎_elim
         (λ (known : cause_at u.stage ≡ Some end.last). absurd (refused_word u end.last refused known word))
         (λ fresh. subst (λ (c : Cause). Gave means late_means body heap c u.now next) (sym fresh.1) (gave_here fresh.0 (subst IsWord fresh.1 word) heap possible)) end.is)
+
+-- ---- outcomes
+
+module _ {T : Type 0} (lawful : List ℕ → Type 0) (size : ℕ) (ends : T → List ℕ → Book → Type 0) (gives : Cause → List ℕ → Book → Type 0) (leaves : List ℕ → Type 0) (u : Attempt) where
+  pub ends_well : (ending : Ending) (out : T) (outcome : Outcome T) → u.ending ≡ Some ending → IsOutcome ending (Some out) outcome → ComesToEnd lawful size (ends out) gives leaves u → EndsAs lawful size ends gives leaves u outcome
+  ends_well (Committed stamp) out outcome is told comes = subst (EndsAs lawful size ends gives leaves u) (sym told) (is, comes)
+  ends_well (Read prefix) out outcome is told comes = subst (EndsAs lawful size ends gives leaves u) (sym told) (is, comes)
+  ends_well (Rolled cause prefix) out outcome is told comes = subst (EndsAs lawful size ends gives leaves u) (sym told)
+      (is, comes_map lawful size _ _ _ _ _ _ u (λ heap book ran. (out, ran)) (λ cause heap book gave. gave) (λ heap left. left) comes)
+
+  pub ends_ill : (ending : Ending) (outcome : Outcome T) → u.ending ≡ Some ending → IsOutcome {T = T} ending None outcome → ComesToEnd lawful size (λ heap book. (out : T) × ends out heap book) gives leaves u → EndsAs lawful size ends gives leaves u outcome
+  ends_ill (Committed stamp) outcome is told comes = absurd told
+  ends_ill (Read prefix) outcome is told comes = absurd told
+  ends_ill (Rolled cause prefix) outcome is told comes = subst (EndsAs lawful size ends gives leaves u) (sym told) (is, comes)
+
+-- Who was rolled back ends so.
+pub rolled_may_end : (T : Type 0) (cause : Cause) (t u : Attempt) (ending : Ending) → AbandonEnds cause t u → u.ending ≡ Some ending → MayEnd {T = T} ending None
+rolled_may_end T cause t u ending ends is =
+    let same : ending ≡ Rolled ends.last t.prefix = cc (sym is ∙ rolled_ends t u ends.last ends.led ends.over.stage) in rw same tt

@@ -143,7 +143,7 @@ impl<L: Law> Flight<L> {
 
     /// The attempt as it was kept.
     pub fn into_running(self) -> Running
-        ensures { shown result ≡ self.attempt }
+        ensures { result.footprint.reads.notes ≡ self.attempt.notes }
     {
         self.running
     }
