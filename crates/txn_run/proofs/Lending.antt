@@ -1,5 +1,5 @@
 -- A seat with other lists, and the attempt that begins on it.
-use Rattle.std.proofs.Common.{◌≡◌, ℕ, ◌<◌, List, Option, Some, refl, sym, ap, subst, ◌∙◌, arith}
+use Rattle.std.proofs.Common.{◌≡◌, ℕ, ◌<◌, List, Option, Some, refl, sym, ap, subst, ◌∙◌, inl, arith}
 use Rattle.ref_table.specs.Calls.{AreEmpty}
 use Rattle.ref_table.specs.Seats.{SeatState, StmState, terms_in}
 use Rattle.ref_table.specs.Seen.{SafeSeat}
@@ -15,9 +15,9 @@ use Rattle.txn_drive.specs.Begun.{IsBegun}
 use Rattle.txn_drive.specs.Going.{Continues}
 use Rattle.txn_drive.specs.Moment.{moment}
 use Rattle.txn_drive.specs.Standing.{IsOn, IsOver}
-use Rattle.txn_run.specs.Callers.{MayBegin, attempt_in, caller_of}
+use Rattle.txn_run.specs.Callers.{CallerState, MayBegin, attempt_in, caller_of}
 use Rattle.txn_run.specs.Flights.{IsFresh, cells_in_stm}
-use Rattle.txn_run.specs.Outcomes.{ConcludesAs, Made}
+use Rattle.txn_run.specs.Outcomes.{Concludes, ConcludesAs, Made}
 use Rattle.txn_run.specs.Turns.{ComesToEnd, EndsAs}
 use Rattle.txn_run.specs.declared.callers.Outcome.{Outcome}
 use Rattle.txn_run.specs.declared.callers.Outcome.TheVariants as with
@@ -102,8 +102,6 @@ module _ {S T : Type 0} (lawful : List ℕ → Type 0) (may : List ℕ → List 
   pub known_over : (attempt_in after).stage ≡ Ended
   known_over = sym (ap (λ (a : Attempt). a.stage) (on.over over.stage).is) ∙ over.stage
 
-  pub known_notes : (notes : List Note) → notes ≡ u.notes → notes ≡ (attempt_in after).notes
-  known_notes notes is = is ∙ ap (λ (a : Attempt). a.notes) (on.over over.stage).is
 
   pub begins_again : (outcome : Outcome T) → EndsAs lawful (cells_in_stm stm) ends gives leaves u outcome → MayBegin lawful may stm after
   begins_again outcome so =
@@ -116,3 +114,12 @@ module _ {S T : Type 0} (lawful : List ℕ → Type 0) (may : List ℕ → List 
         attempts = omega (arith, serial, within);
         lists = subst AreEmpty (sym (continues.seat.same.lists ∙ begun.seat.same.lists)) able.lists;
       }
+
+-- What an attempt concludes with is so after its lists were given back.
+pub concluded_with : {S T : Type 0} (ends : T → List ℕ → Book → Type 0) (gives : Cause → List ℕ → Book → Type 0) (leaves : List ℕ → Type 0) (untouched : Type 0) (stm : StmState S) (before : CallerState)
+    (after given : SeatState) (runs : Option Handlers) (rings : Option (List ℕ)) (outcome : Outcome T) → given ≡ record after { lists = given.lists }
+    → Made stm.settings.attempts before (caller_of after runs rings) → ConcludesAs ends gives leaves stm.opening before (caller_of after runs rings) outcome
+    → Concludes ends gives leaves untouched stm before (caller_of given runs rings) outcome
+concluded_with ends gives leaves untouched stm before after given runs rings outcome same made concludes =
+    let caller : caller_of after runs rings ≡ caller_of given runs rings = ap (λ (s : SeatState). caller_of s runs rings) (sym same) in
+    inl (subst (Made stm.settings.attempts before) caller made, subst (λ c. ConcludesAs ends gives leaves stm.opening before c outcome) caller concludes)
