@@ -72,7 +72,7 @@ EitherLeaves means leaves number choices heap before left =
 
 -- ---- a level that is refused
 
--- Where a cause was answered before, it is the answer. Where as many levels are open as may be, the answer is that a further one is too deep. Nothing else changes.
+-- Where a cause was answered before, it is the answer, and nothing changes. Where none was answered and as many levels are open as may be, or more, the answer is that a further one is too deep, this is the cause from then on, and nothing else changes.
 pub record LevelRefused {T : Type 0} (answer : Result T Cause) (before after : CellsState) : Type 0 where
   pub again : (earlier : Cause) → before.cause ≡ Some earlier → (answer ≡ Err earlier) × (after ≡ before)
   pub deep : before.cause ≡ None → deepest ≤ length before.saved

@@ -7,7 +7,12 @@ ghost use Rattle.stm_model.specs.Telling.{Owing};
 use stm_model::{Cause, Cells, Choices, Law};
 
 /// Runs one alternative after another, from index 0 on, each in a level of its own, until one doesn't
-/// ask for a retry. Asks for a retry where all do. Hands on every other cause.
+/// ask for a retry. Asks for a retry where all do. Hands on every other cause. `Memory` may come instead:
+/// from an alternative, or where the cells have none for its level, and then it isn't run.
+///
+/// Before the call the caller has to meet what is owed (`Owing`): as long as the cells have answered no
+/// cause, the writes so far, put into any heap that is possible by the notes, make a lawful heap, and one
+/// that it may become.
 pub fn either<L: Law, C: Cells<L>, E: Choices<L>>(
     cells: &mut C,
     choices: &mut E,

@@ -9,7 +9,12 @@ use crate::kept_or_failed::Nested;
 use stm_model::{Body, Cause, Cells, Law};
 
 /// Runs a body in a level of its own. A code with which it fails is the block's answer, and no cause
-/// that ends the transaction. Hands on every other cause.
+/// that ends the transaction. Hands on every other cause. `Memory` may come instead: from the body, or
+/// where the cells have none for the level, and then the body isn't run.
+///
+/// Before the call the caller has to meet what is owed (`Owing`): as long as the cells have answered no
+/// cause, the writes so far, put into any heap that is possible by the notes, make a lawful heap, and one
+/// that it may become.
 pub fn nested<L: Law, C: Cells<L>, B: Body<L>>(
     cells: &mut C,
     body: &mut B,

@@ -1,6 +1,7 @@
 //! Blocks within a transaction: one that may fail alone, and the first of several alternatives that
-//! doesn't ask for a retry. A block that isn't kept leaves its reads, and nothing that it wrote or
-//! registered.
+//! doesn't ask for a retry. A block that isn't kept leaves its reads, and what it wrote and registered is
+//! undone. After a cause that the cells answered, its level is closed and nothing is undone with it: the
+//! whole attempt is rolled back then.
 #![tactic(auto)]
 
 mod alternatives;

@@ -1,5 +1,5 @@
 -- What calls on one cell leave of all else.
-use Rattle.std.proofs.Common.{◌≡◌, ℕ, Bool, true, false, nat_eq, ◌||◌, List, [], ◌∷◌, ◌++◌, refl, ap, ◌∙◌, inl, inr, arith}
+use Rattle.std.proofs.Common.{◌≡◌, ℕ, Bool, true, false, nat_eq, ◌||◌, List, [], ◌∷◌, ◌++◌, None, Some, refl, sym, ap, ◌∙◌, inl, inr, arith}
 use Rattle.std.specs.Prelude.{IsTrue, MatchBool, ◌⊎◌}
 use Rattle.std.proofs.lemmas.Bool.Decides.{eqb_tells, nat_tests}
 use Rattle.std.proofs.lemmas.List.Quantifiers.{Any-push}
@@ -43,7 +43,7 @@ uses_got lawful address word s t got = record {
   notes = noted_own address word s t.reads got.noted;
   wrote = ap (λ (x : CellsState). x.now.writes) got.only_reads;
   at_hand = λ none. at_hand_noted address word s t (ap (λ (x : CellsState). x.now.writes) got.only_reads) got.noted;
-  again = λ earlier is. ap (λ (x : CellsState). x.cause) got.only_reads ∙ is;
+  again = λ earlier is. let never : None ≡ Some earlier = sym got.going ∙ is in cc;
 }
 
 pub uses_written : (address word : ℕ) (s t : CellsState) → Does (written address word) s t → Uses address (how false true) s t
@@ -52,7 +52,7 @@ uses_written address word s t does = record {
   notes = inl (ap (λ (x : CellsState). x.reads) does.is);
   wrote = (word, ap (λ (x : CellsState). x.now.writes) does.is);
   at_hand = λ none. inl (ap (λ (x : CellsState). writes_to x.now.writes address) does.is ∙ writes_to-put s.now.writes address word);
-  again = λ earlier is. ap (λ (x : CellsState). x.cause) does.is ∙ is;
+  again = λ earlier is. let never : None ≡ Some earlier = sym does.going ∙ is in cc;
 }
 
 -- ---- a read, and then a write or none
@@ -77,7 +77,9 @@ uses_then address writes s t u one two = record {
   notes = notes_then address s t u one.notes two.notes;
   wrote = wrote_later address writes s t u one.wrote two.wrote;
   at_hand = two.at_hand;
-  again = λ earlier is. two.again earlier (one.again earlier is);
+  again = λ earlier is.
+      let same : t ≡ s = one.again earlier is in
+      two.again earlier (ap (λ (x : CellsState). x.cause) same ∙ is) ∙ same;
 }
 
 -- ---- between moments of cells

@@ -4,6 +4,7 @@ use Rattle.std.specs.Prelude.{IsTrue, MatchBool, is_some, ◌⊎◌}
 use Rattle.std.proofs.Math.Logic.{∥∥₁_elim, ∥∥₁_map}
 use Rattle.std.proofs.lemmas.Bool.Decides.{eqb_tells}
 use Rattle.std.proofs.lemmas.List.{get_or-set_same, get_or-set_other}
+use Rattle.stm_model.specs.declared.cause.Cause.{Cause}
 use Rattle.stm_model.specs.declared.note.Note.{Note}
 use Rattle.stm_model.specs.CellsState.{CellsState, written}
 use Rattle.stm_model.specs.Heap.{over, put}
@@ -29,6 +30,9 @@ notes_extend : (address : ℕ) (reads : Bool) (s t : CellsState)
     → Extends s.reads t.reads
 notes_extend address reads s t (inl same) = Extends-same s.reads t.reads same
 notes_extend address reads s t (inr new) = (new.2 ∷ [], new.4)
+
+cause_stays : (s t : CellsState) → ((earlier : Cause) → s.cause ≡ Some earlier → t ≡ s) → (earlier : Cause) → s.cause ≡ Some earlier → t.cause ≡ Some earlier
+cause_stays s t again earlier is = ap (λ (x : CellsState). x.cause) (again earlier is) ∙ is
 
 -- what another cell holds, the writes leave there
 other_stays : (used address : ℕ) (writes : Bool) (s t : CellsState) (heap : List ℕ) → address ≢ used
@@ -80,13 +84,13 @@ module _ (is_word : ℕ → Bool) (lawful : List ℕ → Type 0) where
   -- calls on this cell wrote none
   pub holds_unwritten : (used address : ℕ) (reads : Bool) (s t : CellsState) → Uses used (record { reads = reads; writes = false }) s t → HoldsWord is_word lawful address s → HoldsWord is_word lawful address t
   holds_unwritten used address reads s t uses h =
-      holds_later address s t (ap (λ (x : CellsState). x.size) uses.only) (notes_extend used reads s t uses.notes) (none_before s.cause t.cause uses.again)
+      holds_later address s t (ap (λ (x : CellsState). x.size) uses.only) (notes_extend used reads s t uses.notes) (none_before s.cause t.cause (cause_stays s t uses.again))
       (λ heap within some. subst (λ ws. IsTrue (is_word (get_or (over heap ws) address 0))) (sym uses.wrote) some) h
 
   -- calls on this cell wrote no other
   pub holds_other : (used address : ℕ) (how : Use) (s t : CellsState) → address ≢ used → Uses used how s t → HoldsWord is_word lawful address s → HoldsWord is_word lawful address t
   holds_other used address how s t apart uses h =
-      holds_later address s t (ap (λ (x : CellsState). x.size) uses.only) (notes_extend used how.reads s t uses.notes) (none_before s.cause t.cause uses.again)
+      holds_later address s t (ap (λ (x : CellsState). x.size) uses.only) (notes_extend used how.reads s t uses.notes) (none_before s.cause t.cause (cause_stays s t uses.again))
       (λ heap within some. subst (λ w. IsTrue (is_word w)) (sym (other_stays used address how.writes s t heap apart uses.wrote)) some) h
 
 module _ {T : Type 0} (value_of : ℕ → Option T) (lawful : List ℕ → Type 0) where

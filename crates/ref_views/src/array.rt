@@ -87,7 +87,7 @@ impl<T: WordValue> TArray<T> {
             (λ _. (C.state cells.old).cause ≡ None)
             (λ cause. (C.state cells.old).cause ≡ None → RefusesRead (C.state cells.old) (self.now.first.0 + index) cause) }
         ensures own { Leads C.law C.follows C.state cells.old cells.new
-            (Uses (self.now.first.0 + index) (record { reads = true; writes = false })) }
+            (Uses (self.now.first.0 + index) (record { reads = is_ok result; writes = false })) }
         ensures typed { HoldsWordOf T.value_of (L.lawful (C.law cells.new)) (self.now.first.0 + index) (C.state cells.new) }
         ensures kept { KeepsAllWords L.lawful C.law C.state cells.old cells.new }
     {

@@ -36,7 +36,7 @@ impl<T: WordValue> Ref<T> {
             (λ _. (C.state cells.old).cause ≡ None)
             (λ cause. (C.state cells.old).cause ≡ None → RefusesRead (C.state cells.old) self.now.addr.0 cause) }
         ensures own { Leads C.law C.follows C.state cells.old cells.new
-            (Uses self.now.addr.0 (record { reads = true; writes = false })) }
+            (Uses self.now.addr.0 (record { reads = is_ok result; writes = false })) }
         ensures typed { HoldsWordOf T.value_of (L.lawful (C.law cells.new)) self.now.addr.0 (C.state cells.new) }
         ensures kept { KeepsAllWords L.lawful C.law C.state cells.old cells.new }
     {
@@ -85,8 +85,9 @@ impl<T: WordValue> Ref<T> {
         Ok(former)
     }
 
-    /// Puts what the function makes of the value in its place. The function is called once, or not at
-    /// all where the read is refused.
+    /// Puts what the function makes of the value in its place. The function is called once, on the value
+    /// that the cell held, or not at all where the read is refused. So after an `Err` (`called`) either
+    /// nothing was called, or the function was called once, on that value, and the write was refused.
     pub fn transform<L: Law, C: Cells<L>, F: FnMut(T) -> T>(
         &self,
         cells: &mut C,
@@ -172,7 +173,7 @@ impl<T: WordValue> Ref<T> {
             (λ _. (C.state cells.old).cause ≡ None)
             (λ cause. (C.state cells.old).cause ≡ None → RefusesRead (C.state cells.old) self.now.addr.0 cause) }
         ensures own { Leads C.law C.follows C.state cells.old cells.new
-            (Uses self.now.addr.0 (record { reads = true; writes = false })) }
+            (Uses self.now.addr.0 (record { reads = is_ok result; writes = false })) }
         ensures typed { HoldsWordOf T.value_of (L.lawful (C.law cells.new)) self.now.addr.0 (C.state cells.new) }
         ensures kept { KeepsAllWords L.lawful C.law C.state cells.old cells.new }
     {
