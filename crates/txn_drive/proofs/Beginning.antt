@@ -27,7 +27,7 @@ use Rattle.op_read.specs.declared.read.ReadPlace.TheVariants as at_read
 use Rattle.opacity.specs.Words.{IsOfTable}
 use Rattle.ref_table.specs.Calls.{AreEmpty}
 use Rattle.ref_table.specs.Limits.{TableFits}
-use Rattle.ref_table.specs.Performs.{ComesFrom}
+use Rattle.ref_table.specs.Performs.{ComesFrom, seen_then}
 use Rattle.ref_table.specs.Seats.{SeatState}
 use Rattle.ref_table.specs.Seen.{SafeSeat}
 use Rattle.ref_table.specs.declared.lists.Lists.{Lists}
@@ -316,12 +316,13 @@ module _ (lawful : List ℕ → Type 0) (may : List ℕ → List ℕ → Type 0)
 
     -- The clock is loaded.
     pub has_begun : Accesses lawful may terms later u last v → IsBegun lawful may terms settings seat last v
-    unfolding next_at answer_of after_at since_at
+    unfolding next_at answer_of after_at since_at seen_then
     has_begun two =
         let loaded : v ≡ begun seat settings two.found = two.leads ∙ ap (λ (a : Attempt). after_word a two.found) loads_next in
         let serial : ℕ = suc seat.view.attempt.serial in
         record {
           is = subst (λ (a : Attempt). a ≡ begun seat settings a.prefix) (sym loaded) refl;
+          prefix = ap (λ (a : Attempt). a.prefix) loaded ∙ sym (two.count ∙ ap (λ (a : Attempt). seen_then (next a) two.found later.view.seen) loads_next);
           on = two.on;
           seat = sees_on serial seat later last (subst (λ (a : Attempt). SeesMore a.serial seat later) is one.seat) (subst (λ (a : Attempt). SeesMore a.serial later last) loads_next two.seat);
           since = two.since ∙ (ap (λ (a : Attempt). since_at later.view a.stage) loads_next ∙ (one.since ∙ (ap (λ (a : Attempt). since_at seat.view a.stage) is ∙ sym safe.counted)));

@@ -44,4 +44,5 @@ module _ (lawful : List ℕ → Type 0) (may : List ℕ → List ℕ → Type 0)
     same = same;
     seat = record { same = seat; grows = performed.grows; mine = mine; waits = ap (λ (view : View). view.waits) performed.view };
     since = ap (λ (view : View). view.since) performed.view;
+    count = ap (λ (view : View). view.seen) performed.view;
   }

@@ -16,9 +16,10 @@ first_of seat settings = record (no_attempt seat.number settings) { serial = suc
 abbrev pub begun : SeatState → Settings → (prefix : ℕ) → Attempt
 begun seat settings prefix = record (first_of seat settings) { phase = Active; prefix = prefix; stage = Ready None }
 
--- The caller's next attempt has begun: its status is stored, and it has loaded the clock.
+-- The caller's next attempt has begun: its status is stored, and it has loaded the clock. Its prefix is how many entries the seat has seen then, and how many it had seen before is kept.
 pub record IsBegun (lawful : List ℕ → Type 0) (may : List ℕ → List ℕ → Type 0) (terms : Terms) (settings : Settings) (before after : SeatState) (t : Attempt) : Type 0 where
   pub is : t ≡ begun before settings t.prefix
+  pub prefix : t.prefix ≡ after.view.seen
   pub on : IsOn lawful may terms after t
   pub seat : SeesMore (suc before.view.attempt.serial) before after
   pub since : after.view.since ≡ length before.seen

@@ -12,7 +12,7 @@ use Rattle.stm_model.specs.Refusing.{IsOfCells, deepest}
 use Rattle.stm_model.specs.Safe.{Safe}
 use Rattle.stm_model.specs.World.{Terms, World}
 
--- There is a safe world in which the caller knows what its seat knows: that of the moment of its last access.
+-- There is a safe world in which the caller knows what its seat knows, and whose history begins with the entries that the seat has seen.
 pub record IsOfWorld (lawful : List ℕ → Type 0) (may : List ℕ → List ℕ → Type 0) (terms : Terms) (seat : SeatState) : Type 0 where
   pub world : World
   pub safe : Safe lawful may terms world
@@ -23,12 +23,12 @@ pub record IsOfWorld (lawful : List ℕ → Type 0) (may : List ℕ → List ℕ
 abbrev pub AreRuns : List Due → Type 0
 AreRuns dues = (hooks : Handlers) × (dues ≡ run_all hooks)
 
--- The seat knows the attempt that is over, but for handlers that have run since.
+-- The seat knows the attempt that is over, but for handlers that have run since, and what is still due of it is handlers alone.
 pub record IsSameEnd (known t : Attempt) : Type 0 where
   pub is : t ≡ record known { due = t.due; now = record known.now { runs = t.now.runs } }
   pub handlers : AreRuns t.due
 
--- The attempt comes by local moves from the one that its caller's seat knows, and that one is of a safe world. Once it is over the seat knows that.
+-- The attempt comes by local moves from the one that its caller's seat knows, that one is of a safe world, and the seat can be relied on. Once the attempt is over, the seat knows it as it is, but for handlers.
 pub record IsOn (lawful : List ℕ → Type 0) (may : List ℕ → List ℕ → Type 0) (terms : Terms) (seat : SeatState) (t : Attempt) : Type 0 where
   pub comes : ComesFrom terms seat.view.attempt t
   pub shown : IsOfWorld lawful may terms seat

@@ -1,7 +1,7 @@
 -- Private: one access of an attempt, and one thing that is due. Here t is an attempt and u what became of it.
 use Rattle.std.specs.Prelude.{◌≡◌, ℕ, List, Option, Some}
 use Rattle.opacity.specs.Words.{IsOfTable}
-use Rattle.ref_table.specs.Performs.{ComesFrom}
+use Rattle.ref_table.specs.Performs.{ComesFrom, seen_then}
 use Rattle.ref_table.specs.Seats.{SeatState}
 use Rattle.stm_core.specs.Machine.{IsSameAttempt}
 use Rattle.stm_core.specs.declared.next.Next.{Next}
@@ -27,7 +27,7 @@ pub record MayAccess (lawful : List ℕ → Type 0) (may : List ℕ → List ℕ
   pub limit : t.settings.clock ≡ terms.limit
   pub owes : (old : ℕ) → next t ≡ Some (ExchangeClock old) → Owes lawful may (cells_in terms) t.notes t.now.writes
 
--- The attempt has made its access.
+-- The attempt has made its access. Where that loaded the clock or won its exchange, the seat has seen the entries that the clock counts.
 pub record Accesses (lawful : List ℕ → Type 0) (may : List ℕ → List ℕ → Type 0) (terms : Terms) (before : SeatState) (t : Attempt) (after : SeatState) (u : Attempt) : Type 0 where
   pub found : ℕ
   pub leads : u ≡ after_word t found
@@ -35,6 +35,7 @@ pub record Accesses (lawful : List ℕ → Type 0) (may : List ℕ → List ℕ 
   pub same : IsSameAttempt t u
   pub seat : SeesMore t.serial before after
   pub since : after.view.since ≡ since_at before.view t.stage
+  pub count : after.view.seen ≡ seen_then (next t) found before.view.seen
 
 -- A handler was run, or a cell was rung for, as it was due.
 unfoldable pub IsCalled : Next → (runs runs_then : Option Handlers) → (rings rings_then : Option (List ℕ)) → Type 0

@@ -1,8 +1,7 @@
 //! One access of an attempt.
 ghost use Rattle.std.specs.Prelude.{◌≡◌, ◌<◌};
 ghost use Rattle.ref_table.specs.Seats.{terms_in};
-ghost use Rattle.stm_core.specs.Running.{IsSound, KeepsNumbers, left_in, shown};
-ghost use Rattle.stm_model.specs.Accesses.{next};
+ghost use Rattle.stm_core.specs.Running.{IsSound, left_in, shown};
 ghost use Rattle.txn_drive.specs.Stepping.{MayAccess, Accesses};
 
 use crate::standing::Standing;

@@ -1,14 +1,12 @@
 //! An attempt goes on until it waits to be asked, or is over.
-ghost use Rattle.std.specs.Prelude.{◌≡◌, ◌⊎◌, ℕ, Some};
+ghost use Rattle.std.specs.Prelude.{◌≡◌, None};
 ghost use Rattle.ref_table.specs.Seats.{terms_in};
 ghost use Rattle.stm_core.specs.Running.{IsSound, shown};
-ghost use Rattle.stm_model.specs.Accesses.{ExchangeClock, next};
 ghost use Rattle.stm_model.specs.Attempt.{cause_at};
 ghost use Rattle.stm_model.specs.Moves.{AwaitsAsk, MayAsk};
 ghost use Rattle.stm_model.specs.Owes.{Owes};
 ghost use Rattle.stm_model.specs.World.{cells_in};
 ghost use Rattle.stm_model.specs.declared.access.Ask.TheVariants.{Finish};
-ghost use Rattle.std.specs.Prelude.{None};
 ghost use Rattle.txn_drive.specs.Going.{Continues, Goes, IsAsked};
 ghost use Rattle.txn_drive.specs.Moment.{moment};
 ghost use Rattle.txn_drive.specs.Paying.{Pays};
@@ -20,7 +18,9 @@ use ref_table::{Seat, Stm};
 use stm_core::{Ask, Running};
 use stm_model::{Bell, Hooks, Law};
 
-/// The attempt makes its accesses, and all that is due in between is done, until it waits to be asked or is over.
+/// All that is due is done, and the attempt makes its accesses, with what is due behind each of them, until it
+/// waits to be asked or is over. Wherever its steps lead it, what is owed has to be met before it exchanges the
+/// clock (`Pays`).
 pub fn go_on<L: Law, R: Bell, H: Hooks>(
     seat: &mut Seat<L>,
     stm: &Stm<L>,
@@ -44,8 +44,12 @@ pub fn go_on<L: Law, R: Bell, H: Hooks>(
     }
 }
 
-/// The attempt is asked for something, and goes on until it waits to be asked again, or is over. It is over
-/// after `Abandon`, and after `Finish` unless a before-commit body has its turn.
+/// The attempt, which waits, is asked for one thing: to read or write a cell, to open or close a level, to
+/// register something, or to end. It takes the ask and goes on. What comes back is an attempt that waits to be
+/// asked again, is over, or was refused what it was asked for: then it waits too, with the cause, which is
+/// `Memory` where memory ran out. It is over after `Abandon`, and after `Finish` unless a before-commit body has
+/// its turn. `Running::next` tells which of these it is. Before `Finish` what is owed has to be met, unless the
+/// attempt was refused something before.
 pub fn ask<L: Law, R: Bell, H: Hooks>(
     seat: &mut Seat<L>,
     stm: &Stm<L>,

@@ -16,8 +16,10 @@ use ref_table::{Seat, Stm};
 use stm_core::Running;
 use stm_model::{Bell, Hooks, Law};
 
-/// The before-commit body that has its turn is over. The next one has its turn, or the attempt goes on until it is
-/// over.
+/// The before-commit body that has its turn has run, and the attempt, which waits, is told so. What comes back is
+/// an attempt that waits to be asked by the next such body, or, where there is none, one that is over, committed or
+/// rolled back. Where it was refused something before, it is rolled back with that cause, and no further body has
+/// its turn. Else what is owed has to be met before the call.
 pub fn end_late<L: Law, R: Bell, H: Hooks>(
     seat: &mut Seat<L>,
     stm: &Stm<L>,

@@ -1,5 +1,5 @@
 //! An attempt as it is shown to the table.
-use stm_core::{Running, State};
+use stm_core::Running;
 use stm_model::Shown;
 
 /// An attempt that stands in this state.
