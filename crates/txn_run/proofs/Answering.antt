@@ -1,5 +1,5 @@
 -- What an attempt that rests does next tells what it was answered by.
-use Rattle.std.proofs.Common.{◌≡◌, ◌≢◌, ℕ, List, [], Option, Some, None, Result, Ok, Err, refl, sym, ap, subst, ◌∙◌, ⊎_elim}
+use Rattle.std.proofs.Common.{◌≡◌, ◌≢◌, List, [], Option, Some, None, Ok, refl, sym, ap, subst, ◌∙◌, ⊎_elim}
 use Rattle.stm_core.specs.Machine as Machine
 use Rattle.stm_core.specs.Machine.{after_due, next_of, standing}
 use Rattle.stm_core.specs.declared.next.Next.{Next}

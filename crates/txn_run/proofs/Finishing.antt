@@ -1,8 +1,8 @@
 -- What becomes of an attempt whose body is over, or whose before-commit body is.
-use Rattle.std.proofs.Common.{◌≡◌, ◌≢◌, ℕ, suc, ◌⊎◌, drop, List, [], ◌∷◌, Option, Some, None, refl, sym, ap, subst, ◌∙◌, ⊎_elim, inl, inr}
+use Rattle.std.proofs.Common.{◌≡◌, ℕ, suc, ◌⊎◌, drop, List, [], ◌∷◌, Some, None, refl, sym, subst, ◌∙◌, ⊎_elim, inl, inr}
 use Rattle.stm_core.specs.Machine.{IsRefused}
 use Rattle.stm_model.specs.After.{at, rolled}
-use Rattle.stm_model.specs.Attempt.{Attempt, Ended, Late, Ready, Stage, Stopped, cause_at}
+use Rattle.stm_model.specs.Attempt.{Attempt, Late, Ready, Stage, Stopped, cause_at}
 use Rattle.stm_model.specs.HandlerRuns.{Step, led}
 use Rattle.stm_model.specs.Moves.{AwaitsAsk, AwaitsAskAt, EndsLate, MayRunOut, Takes, asked_at, asked_going, asked_stopped, conclude, moved, turn_to}
 use Rattle.stm_model.specs.declared.access.Ask.TheVariants.{Abandon, Finish}

@@ -1,5 +1,5 @@
 -- A seat with other lists, and the attempt that begins on it.
-use Rattle.std.proofs.Common.{◌≡◌, ℕ, ◌<◌, List, Option, Some, refl, sym, ap, subst, ◌∙◌, inl, arith}
+use Rattle.std.proofs.Common.{◌≡◌, ℕ, ◌<◌, List, Option, sym, ap, subst, ◌∙◌, inl, arith}
 use Rattle.ref_table.specs.Calls.{AreEmpty}
 use Rattle.ref_table.specs.Seats.{SeatState, StmState, terms_in}
 use Rattle.ref_table.specs.Seen.{SafeSeat}
@@ -9,7 +9,6 @@ use Rattle.stm_model.specs.CellsState.{Book}
 use Rattle.stm_model.specs.Handlers.{Handlers}
 use Rattle.stm_model.specs.World.{Terms}
 use Rattle.stm_model.specs.declared.cause.Cause.{Cause}
-use Rattle.stm_model.specs.declared.note.Note.{Note}
 use Rattle.stm_model.specs.declared.settings.Settings.{Settings}
 use Rattle.txn_drive.specs.Begun.{IsBegun}
 use Rattle.txn_drive.specs.Going.{Continues}
@@ -101,7 +100,6 @@ module _ {S T : Type 0} (lawful : List ℕ → Type 0) (may : List ℕ → List 
 
   pub known_over : (attempt_in after).stage ≡ Ended
   known_over = sym (ap (λ (a : Attempt). a.stage) (on.over over.stage).is) ∙ over.stage
-
 
   pub begins_again : (outcome : Outcome T) → EndsAs lawful (cells_in_stm stm) ends gives leaves u outcome → MayBegin lawful may stm after
   begins_again outcome so =

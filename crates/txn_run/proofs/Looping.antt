@@ -1,9 +1,9 @@
 -- The turns of before-commit bodies as a loop.
-use Rattle.std.proofs.Common.{◌≡◌, ◌≢◌, ℕ, zero, suc, ◌<◌, List, [], Option, Some, None, Result, Ok, Err, refl, sym, ap, subst, ◌∙◌, arith}
+use Rattle.std.proofs.Common.{◌≡◌, ◌≢◌, ℕ, ◌<◌, List, Some, None, Result, refl, sym, ◌∙◌, arith}
 use Rattle.ref_table.specs.Seats.{SeatState}
 use Rattle.stm_model.specs.Attempt.{Attempt, Ended, Late, Stage, cause_at}
 use Rattle.stm_model.specs.CellsState.{Book}
-use Rattle.stm_model.specs.Moves.{AwaitsAsk, MayAsk}
+use Rattle.stm_model.specs.Moves.{MayAsk}
 use Rattle.stm_model.specs.Owes.{IsPossible, Owes}
 use Rattle.stm_model.specs.Whole.{RunLate}
 use Rattle.stm_model.specs.World.{Terms, cells_in}

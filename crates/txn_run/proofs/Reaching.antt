@@ -1,6 +1,6 @@
 -- From the run of a body to the end of its attempt.
-use Rattle.std.proofs.Common.{◌≡◌, ◌≢◌, ℕ, ◌≤◌, ◌⊎◌, List, [], ◌∷◌, ◌++◌, length, Option, Some, None, Result, Ok, Err, refl, sym, ap, subst, ◌∙◌, ⊎_elim, append_assoc}
-use Rattle.std.specs.Prelude.{IfErr, IfOk, IfSome}
+use Rattle.std.proofs.Common.{◌≡◌, ℕ, ◌⊎◌, List, [], ◌∷◌, ◌++◌, Some, None, Result, Ok, Err, sym, subst, ◌∙◌, ⊎_elim, append_assoc}
+use Rattle.std.specs.Prelude.{IfErr, IfSome}
 use mathlib.Core.List.{IsPrefix}
 use Rattle.meta_word.specs.declared.status.Phase.TheVariants.{Active}
 use Rattle.stm_model.specs.Attempt.{Attempt, cause_at, cells_of}
@@ -12,7 +12,6 @@ use Rattle.stm_model.specs.Ran.{IsDecided, Ran}
 use Rattle.stm_model.specs.Refusing.{IsOfBody, IsOfCells}
 use Rattle.stm_model.specs.Whole.{RunLate, Whole}
 use Rattle.stm_model.specs.declared.cause.Cause.{Cause}
-use Rattle.stm_model.specs.declared.note.Note.{Note}
 use Rattle.txn_run.specs.Bodies.{Gave, IsLeft, RanTo}
 use Rattle.txn_run.specs.Bodies as so
 use Rattle.txn_run.specs.Outcomes.{IsWord}
@@ -44,7 +43,6 @@ prefix_front tokens more whole first = (more ++ first.0, sym (append_assoc token
 module _ {B T : Type 0} (means : B → List ℕ → Book → Result T Cause → Book → B → Type 0) (leaves : B → List ℕ → Book → B → Type 0)
     (late_means : B → ℕ → List ℕ → Book → Result (Unit {0}) Cause → Book → B → Type 0) (late_leaves : B → ℕ → List ℕ → Book → B → Type 0)
     (lawful : List ℕ → Type 0) (may : List ℕ → List ℕ → Type 0) (size : ℕ) (body next left : B) (t u : Attempt) (fresh : t.now ≡ empty_book) where
-
   module _ (answer : Result T Cause) (ran : Ran lawful may (λ heap before answer after. means body heap before answer after next) (λ heap before. leaves body heap before next) answer (cells_of size t) (cells_of size u)) where
     run_whole : cause_at u.stage ≡ None → IsDecided answer → (heap : List ℕ) → IsPossible lawful size u.notes heap → means body heap empty_book answer u.now next
     run_whole going decided heap possible = subst (λ (b : Book). means body heap b answer u.now next) fresh (ran.whole going decided heap possible)

@@ -1,5 +1,5 @@
 -- How an attempt stands to its seat after it has begun, and after it was asked.
-use Rattle.std.proofs.Common.{◌≡◌, ◌≢◌, ℕ, ◌≤◌, ◌⊎◌, List, [], length, Option, Some, None, Result, refl, sym, ap, subst, ◌∙◌, ⊎_elim, inl, inr, arith}
+use Rattle.std.proofs.Common.{◌≡◌, ◌≢◌, ℕ, ◌≤◌, List, length, Option, None, Result, sym, ap, subst, ◌∙◌, ⊎_elim, inl, arith}
 use Rattle.std.specs.Prelude.{IfSome}
 use Rattle.ref_table.specs.Seats.{SeatState, StmState, terms_in}
 use Rattle.std.specs.Map.{values_of}
@@ -67,9 +67,9 @@ waits_flies stage waits = absurd waits
 pub finish_kept : (t u : Attempt) → AwaitsAsk t → IsKept t → FinishEnds t u → IsKept u
 finish_kept t u waits kept ends = elim ends [
   | late token tokens going is here ↦ record {
-      refused = late_going u.stage token (ap (λ (a : Attempt). a.stage) here);
-      deep = λ flies. subst (λ (a : Attempt). length a.saved ≤ deepest) (sym here) (kept.deep (waits_flies t.stage waits.stands));
-    }
+    refused = late_going u.stage token (ap (λ (a : Attempt). a.stage) here);
+    deep = λ flies. subst (λ (a : Attempt). length a.saved ≤ deepest) (sym here) (kept.deep (waits_flies t.stage waits.stands));
+  }
   | concluded going none led over ↦ over_kept u over
   | rolled_back cause is led over ↦ over_kept u over
 ]

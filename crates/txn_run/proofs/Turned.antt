@@ -1,16 +1,14 @@
 -- One turn of a before-commit body, from its run to what comes next.
-use Rattle.std.proofs.Common.{◌≡◌, ◌≢◌, ℕ, ◌<◌, ◌^◌, ◌⊎◌, List, Option, Some, None, Result, Ok, Err, refl, sym, ap, subst, ◌∙◌, inl, inr}
-use Rattle.std.specs.Prelude.{IfErr}
+use Rattle.std.proofs.Common.{◌≡◌, ◌≢◌, ℕ, ◌<◌, ◌^◌, ◌⊎◌, List, Some, Result, Ok, Err, sym, subst, ◌∙◌}
 use Rattle.meta_word.specs.declared.status.Phase.TheVariants.{Active}
 use Rattle.ref_table.specs.Seats.{SeatState}
-use Rattle.stm_model.specs.Attempt.{Attempt, Ended, Late, Stage, cause_at, cells_of}
+use Rattle.stm_model.specs.Attempt.{Attempt, Ended, Late, cause_at, cells_of}
 use Rattle.stm_model.specs.CellsState.{Book}
-use Rattle.stm_model.specs.Moves.{AwaitsAsk, EndsLate, MayAsk, Takes, moved}
-use Rattle.stm_model.specs.Owes.{Owes}
+use Rattle.stm_model.specs.Moves.{AwaitsAsk, EndsLate, MayAsk, moved}
 use Rattle.stm_model.specs.Ran.{Ran}
 use Rattle.stm_model.specs.Refusing.{IsOfBody}
 use Rattle.stm_model.specs.World.{Terms, cells_in}
-use Rattle.stm_model.specs.declared.access.Ask.TheVariants.{Abandon, Finish}
+use Rattle.stm_model.specs.declared.access.Ask.TheVariants.{Abandon}
 use Rattle.stm_model.specs.declared.cause.Cause.{Cause}
 use Rattle.stm_model.specs.declared.note.Note.{Note}
 use Rattle.txn_drive.specs.Going.{IsAsked}

@@ -1,23 +1,20 @@
 -- The turns of before-commit bodies, one after another.
-use Rattle.std.proofs.Common.{◌≡◌, ◌≢◌, ℕ, zero, suc, ◌^◌, ◌+◌, ◌-◌, ◌<◌, ◌≤◌, ◌⊎◌, List, [], ◌∷◌, ◌++◌, length, drop, take, Option, Some, None, Result, Ok, Err, refl, sym, ap, subst, ◌∙◌, inl, inr, ⊎_elim, arith, append_assoc}
+use Rattle.std.proofs.Common.{◌≡◌, ℕ, zero, suc, ◌^◌, ◌-◌, ◌<◌, ◌⊎◌, List, [], ◌∷◌, ◌++◌, drop, take, Option, Some, None, Result, Ok, Err, refl, sym, ap, subst, ◌∙◌, inl, inr, ⊎_elim, arith, append_assoc}
 use Rattle.std.specs.Prelude.{IfErr, IfOk, IfSome}
 use mathlib.Core.List.{IsPrefix}
 use Rattle.meta_word.specs.declared.status.Phase.TheVariants.{Active}
-use Rattle.stm_model.specs.After.{at}
-use Rattle.stm_model.specs.Attempt.{Attempt, Ended, Late, Ready, Stage, Stopped, cause_at, cells_of}
+use Rattle.stm_model.specs.Attempt.{Attempt, Ended, Late, Stage, cause_at, cells_of}
 use Rattle.stm_model.specs.CellsState.{Book}
 use Rattle.stm_model.specs.Moves.{AwaitsAsk, AwaitsAskAt}
 use Rattle.stm_model.specs.Owes.{IsPossible, Owes}
 use Rattle.stm_model.specs.Ran.{IsDecided, Ran}
 use Rattle.stm_model.specs.Refusing.{IsOfBody, IsOfCells}
-use Rattle.stm_model.specs.Telling.{Extends}
 use Rattle.stm_model.specs.Whole.{RunLate}
 use Rattle.stm_model.specs.declared.cause.Cause.{Cause}
 use Rattle.stm_model.specs.declared.cause.Cause.TheVariants.{Full, Retry, User}
 use Rattle.stm_model.specs.declared.note.Note.{Note}
-use Rattle.txn_drive.specs.Standing.{IsOver}
 use Rattle.txn_run.specs.Outcomes.{IsWord}
-use Rattle.txn_run.specs.Turns.{ComesToEnd, GaveLate, InTurn, LeftLate, Turning, as_it_was, at_end, by_late, concluded, in_turn, rolled_back, turns_left}
+use Rattle.txn_run.specs.Turns.{GaveLate, InTurn, LeftLate, Turning, at_end, by_late, concluded, in_turn, rolled_back, turns_left}
 use Rattle.stm_model.proofs.CellsLemmas.{IsPossible-before}
 use Rattle.std.proofs.lemmas.List.{append-nil, take-append-drop}
 use Rattle.txn_run.proofs.Finishing.{AbandonEnds, FinishEnds}
@@ -88,22 +85,24 @@ module _ {B : Type 0} (late_means : B → ℕ → List ℕ → Book → Result (
     unfolding AwaitsAskAt
     turning_from t u left reached ends = elim ends [
       | end.late token tokens going next is ↦ subst (λ (a : Attempt). Turning Going late_means late_leaves lawful may size body reads before a left) (sym is) (in_turn (record {
-          going = reached.since going;
-          waits = record { stands = tt; nothing_due = reached.waits.nothing_due };
-          done = t.turn;
-          turn = refl;
-          token = token;
-          behind = tokens;
-          stage = refl;
-          next = next;
-          owes = reached.owes going;
-          earlier = reached.earlier;
-          ran = reached.ran going;
-          leaves = reached.leaves;
-        }))
+        going = reached.since going;
+        waits = record { stands = tt; nothing_due = reached.waits.nothing_due };
+        done = t.turn;
+        turn = refl;
+        token = token;
+        behind = tokens;
+        stage = refl;
+        next = next;
+        owes = reached.owes going;
+        earlier = reached.earlier;
+        ran = reached.ran going;
+        leaves = reached.leaves;
+      }))
       | end.concluded going none led over ↦ at_end over (concluded t reached.waits reached.active led
-          (λ heap possible. ((record { going = reached.since going; possible = reached.earlier heap possible }, subst (λ (tokens : List ℕ). RunLate late_means heap tokens body before t.now left) (take_whole t.now.laters t.turn none) (reached.ran going heap possible)),
-          (reached.earlier heap possible, reached.leaves heap possible))))
+          (λ heap possible. (
+            (record { going = reached.since going; possible = reached.earlier heap possible }, subst (λ (tokens : List ℕ). RunLate late_means heap tokens body before t.now left) (take_whole t.now.laters t.turn none) (reached.ran going heap possible)),
+            (reached.earlier heap possible, reached.leaves heap possible),
+          )))
       | end.rolled_back cause is led over ↦ at_end over (rolled_back t cause reached.waits reached.active (inl (subst (λ (c : Option Cause). IfSome c IsOfCells) is reached.refused)) led (λ heap possible. (reached.earlier heap possible, reached.leaves heap possible))
           (λ word. absurd (refused_word t cause reached.refused is word)))
     ]
@@ -154,9 +153,12 @@ module _ {B : Type 0} (late_means : B → ℕ → List ℕ → Book → Result (
 
       pub turned_ill : (cause : Cause) (v : Attempt) → answer ≡ Err cause → AbandonEnds cause u v → Turning Going late_means late_leaves lawful may size body reads before v left
       turned_ill cause v is ends = at_end ends.over (rolled_back u ends.last waits active
-          (end_cause u v cause ends refused (subst (λ (a : Result (Unit {0}) Cause). IfErr a (λ c. IsOfBody c ⊎ (cause_at u.stage ≡ Some c))) is ran.causes)) ends.led (λ heap possible. (turn.earlier heap (earlier heap possible), leaves_so heap possible)) (λ word heap possible. (record { going = turn.going; possible = turn.earlier heap (earlier heap possible) }, ⊎_elim
-          (λ (known : cause_at u.stage ≡ Some ends.last). absurd (refused_word u ends.last refused known word))
-          (λ fresh. subst (λ (c : Cause). GaveLate late_means heap c body before u.now left) (sym fresh.1) (gave_so cause is fresh.0 (subst IsWord fresh.1 word) heap possible)) ends.is)))
+          (end_cause u v cause ends refused (subst (λ (a : Result (Unit {0}) Cause). IfErr a (λ c. IsOfBody c ⊎ (cause_at u.stage ≡ Some c))) is ran.causes)) ends.led (λ heap possible. (turn.earlier heap (earlier heap possible), leaves_so heap possible)) (λ word heap possible. (
+            record { going = turn.going; possible = turn.earlier heap (earlier heap possible) },
+            ⊎_elim
+                (λ (known : cause_at u.stage ≡ Some ends.last). absurd (refused_word u ends.last refused known word))
+                (λ fresh. subst (λ (c : Cause). GaveLate late_means heap c body before u.now left) (sym fresh.1) (gave_so cause is fresh.0 (subst IsWord fresh.1 word) heap possible)) ends.is,
+          )))
 
 -- ---- each turn leaves fewer
 

@@ -4,8 +4,7 @@ use Rattle.ref_table.specs.Seats.{SeatState, StmState, terms_in}
 use Rattle.stm_core.specs.Running.{IsSound, shown}
 use Rattle.stm_core.specs.declared.running.Running.{Running}
 use Rattle.stm_model.specs.Attempt.{Attempt, Ended, Ready, Stage, Stopped, cause_at, cells_of}
-use Rattle.stm_model.specs.CellsState.{CellsState, empty_book, entered, hooked, kept, late_registered, undone, written}
-use Rattle.stm_model.specs.Handlers.{Handlers}
+use Rattle.stm_model.specs.CellsState.{CellsState, empty_book, hooked, kept, late_registered, undone, written}
 use Rattle.stm_model.specs.Moves.{AwaitsAsk, MayAsk}
 use Rattle.stm_model.specs.Owes.{Owes}
 use Rattle.stm_model.specs.Refusing.{IsOfCells, RefusesLevel, RefusesRead, RefusesRegistration, RefusesWrite, deepest}
@@ -15,7 +14,7 @@ use Rattle.stm_model.specs.declared.access.Ask.{Ask}
 use Rattle.stm_model.specs.declared.access.Ask.TheVariants.{Abandon, Enter, Finish, Get, Hook, Keep, Later, Set, Undo}
 use Rattle.stm_model.specs.declared.cause.Cause.{Cause}
 use Rattle.txn_drive.specs.Going.{Continues}
-use Rattle.txn_drive.specs.Moment.{Moment, moment}
+use Rattle.txn_drive.specs.Moment.{Moment}
 use Rattle.txn_drive.specs.Standing.{IsOn, Rests}
 
 -- the table, what its caller's seat knows, and the attempt

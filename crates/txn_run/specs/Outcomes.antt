@@ -1,13 +1,11 @@
 -- What an attempt concludes with. `ends`, `gives` and `leaves` are what its body states of itself on a heap: that it ran to its end, that it answered a cause, and how it is left.
-use Rattle.std.specs.Prelude.{◌≡◌, ℕ, suc, ◌+◌, ◌-◌, ◌<◌, ◌≤◌, ◌⊎◌, Bool, false, List, [], ◌++◌, length, Some}
+use Rattle.std.specs.Prelude.{◌≡◌, ℕ, suc, ◌-◌, ◌<◌, ◌≤◌, ◌⊎◌, Bool, false, List, [], ◌++◌, length, Some}
 use mathlib.Core.List.{IsPrefix}
 use Rattle.ref_table.specs.Calls.{HasNoneOf}
 use Rattle.ref_table.specs.Seats.{SeatState, StmState}
-use Rattle.stm_model.specs.Attempt.{Attempt, stamp_of}
 use Rattle.stm_model.specs.CellsState.{Book}
 use Rattle.stm_model.specs.Handlers.{completing, failing}
 use Rattle.stm_model.specs.History.{entry_after, state}
-use Rattle.stm_model.specs.Ran.{IsDecided}
 use Rattle.stm_model.specs.Refusing.{IsOfBody}
 use Rattle.stm_model.specs.World.{entry_of}
 use Rattle.stm_model.specs.declared.cause.Cause.{Cause}

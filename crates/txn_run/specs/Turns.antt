@@ -1,9 +1,9 @@
 -- Private: the turns of before-commit bodies, and how an attempt comes to its end.
-use Rattle.std.specs.Prelude.{◌≡◌, ◌≢◌, ℕ, suc, ◌<◌, ◌-◌, ◌^◌, ◌⊎◌, List, [], ◌∷◌, ◌++◌, drop, take, IsSome, Option, Some, None, Result, Ok, Err}
+use Rattle.std.specs.Prelude.{◌≡◌, ℕ, suc, ◌-◌, ◌^◌, ◌⊎◌, List, [], ◌∷◌, ◌++◌, drop, take, IsSome, Option, Some, Result, Err}
 use mathlib.Core.List.{IsPrefix}
 use Rattle.meta_word.specs.declared.status.Phase.TheVariants.{Active}
 use Rattle.stm_model.specs.After.{rolled}
-use Rattle.stm_model.specs.Attempt.{Attempt, Late, Stage, cause_at}
+use Rattle.stm_model.specs.Attempt.{Attempt, Late, Stage}
 use Rattle.stm_model.specs.CellsState.{Book}
 use Rattle.stm_model.specs.Moves.{AwaitsAsk, conclude}
 use Rattle.stm_model.specs.Owes.{IsPossible, Owes}

@@ -1,6 +1,5 @@
-use Rattle.std.proofs.Common.{rules, ◌≡◌, ap, sym}
+use Rattle.std.proofs.Common.{rules}
 use Rattle.ref_table.specs.Seats.{terms_in}
-use Rattle.txn_run.specs.Flights.{FlightState}
 use Rattle.txn_run.proofs.Standing.{here_so, knows_here, stands_here, went_so}
 use Rattle.txn_run.proofs.bodies.run_late.Goals as goal
 

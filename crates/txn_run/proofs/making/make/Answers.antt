@@ -1,5 +1,4 @@
-use Rattle.std.proofs.Common.{◌≡◌, ap, sym, ◌∙◌, subst}
-use Rattle.ref_table.specs.Calls.{AreEmpty}
+use Rattle.std.proofs.Common.{ap, ◌∙◌}
 use Rattle.txn_run.proofs.Lending.{begins_again, begins_with, concludes_so, made_so}
 use Rattle.txn_run.proofs.Standing.{stands_here}
 use Rattle.txn_run.proofs.making.make.Goals as goal

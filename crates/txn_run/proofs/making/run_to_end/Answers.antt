@@ -1,6 +1,4 @@
-use Rattle.std.proofs.Common.{◌≡◌, Some, None, Ok, Err}
 use Rattle.ref_table.specs.Seats.{terms_in}
-use Rattle.stm_model.specs.Whole.{Whole}
 use Rattle.txn_drive.proofs.Onward.{continues_on}
 use Rattle.txn_run.specs.Flights.{cells_in_stm}
 use Rattle.txn_run.proofs.Finishing.{abandon_ends}

@@ -1,9 +1,4 @@
-use Rattle.std.proofs.Common.{◌≡◌, ◌⊎◌, Some, Result, Ok, Err, sym, subst}
-use Rattle.std.specs.Prelude.{IfErr}
 use Rattle.ref_table.specs.Seats.{terms_in}
-use Rattle.stm_model.specs.Attempt.{cause_at}
-use Rattle.stm_model.specs.Refusing.{IsOfBody}
-use Rattle.txn_drive.specs.Moment.{moment}
 use Rattle.txn_drive.proofs.Onward.{continues_on}
 use Rattle.txn_run.proofs.Standing.{stands_here}
 use Rattle.txn_run.proofs.Turned.{falls_back, falls_on, may_abandon, turns_back, turns_on}

@@ -1,4 +1,4 @@
-use Rattle.std.proofs.Common.{◌≡◌, ◌↔◌, Some, None, sym, ◌∙◌}
+use Rattle.std.proofs.Common.{sym, ◌∙◌}
 use Rattle.ref_table.specs.Seats.{terms_in}
 use Rattle.txn_drive.proofs.Onward.{continues_on}
 use Rattle.txn_run.proofs.Looping.{comes_then, late_of, may_finish, over_then, owes_in, some_turn, turn_in, turning_first}

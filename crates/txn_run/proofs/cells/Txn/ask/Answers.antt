@@ -14,7 +14,7 @@ invariant_of-self g c =
     let self = c.args.self.now in
     let stm = self.stm.now in
     let going = asked_going (g.L.Law.lawful stm.law) (g.L.Law.may stm.law) stm self.flight.now.attempt c.stands.ensures.rests self.going c.args.ask c.requires.body c.requires.able
-        c.ask.new.self.attempt c.ask.ensures.asked c.ask.ensures.stands.rests in
+    c.ask.new.self.attempt c.ask.ensures.asked c.ask.ensures.stands.rests in
     let knows = knows_here (g.L.Law.lawful stm.law) (g.L.Law.may stm.law) (terms_in stm) c.ask.new.seat c.ask.new.self.attempt going c.ask.ensures.stands in
     record {
       here = c.ask.ensures.here;
@@ -38,4 +38,4 @@ pub returns-clause-tells : goal.returns-clause-tells
 returns-clause-tells g c =
     let self = c.args.self.now in
     asked_tells (g.L.Law.lawful self.stm.now.law) (g.L.Law.may self.stm.now.law) self.stm.now self.flight.now.attempt c.stands.ensures.rests self.going c.args.ask c.requires.body c.requires.able
-        c.ask.new.self.attempt c.ask.ensures.asked c.ask.ensures.stands.rests c.told.result c.told.ensures
+    c.ask.new.self.attempt c.ask.ensures.asked c.ask.ensures.stands.rests c.told.result c.told.ensures

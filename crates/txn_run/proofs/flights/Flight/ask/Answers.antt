@@ -4,7 +4,7 @@ use Rattle.stm_core.specs.Running.{shown}
 use Rattle.stm_model.specs.Attempt.{Attempt}
 use Rattle.stm_model.specs.Moves.{AwaitsAsk, MayAsk}
 use Rattle.stm_model.specs.World.{cells_in}
-use Rattle.txn_run.specs.Flights.{FlightState, IsFlying}
+use Rattle.txn_run.specs.Flights.{FlightState}
 use Rattle.txn_run.proofs.Standing.{asked_kept, kept_of, stands_of}
 use Rattle.txn_run.proofs.flights.Flight.ask.Goals as goal
 
@@ -42,4 +42,4 @@ returns-clause-stands g c =
     let waits = subst AwaitsAsk (sym was) c.requires.asks.waits in
     let able = subst (λ (a : Attempt). MayAsk (cells_in (terms_in stm)) a c.args.ask) (sym was) c.requires.asks.able in
     stands_of lawful may (terms_in stm) c.ask.new.seat u c.ask.ensures.on c.ask.ensures.rests
-          (asked_kept (cells_in (terms_in stm)) c.args.ask t u waits able c.ask.ensures.asked c.ask.ensures.rests kept)
+    (asked_kept (cells_in (terms_in stm)) c.args.ask t u waits able c.ask.ensures.asked c.ask.ensures.rests kept)

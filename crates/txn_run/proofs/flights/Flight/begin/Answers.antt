@@ -1,7 +1,6 @@
-use Rattle.std.proofs.Common.{◌∙◌, sym, subst}
+use Rattle.std.proofs.Common.{◌∙◌}
 use Rattle.ref_table.specs.Seats.{terms_in}
 use Rattle.stm_core.specs.Running.{shown}
-use Rattle.txn_run.specs.Flights.{IsFlying}
 use Rattle.txn_run.proofs.Standing.{begun_stands}
 use Rattle.txn_run.proofs.flights.Flight.begin.Goals as goal
 

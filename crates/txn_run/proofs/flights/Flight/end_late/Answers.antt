@@ -1,10 +1,8 @@
 use Rattle.std.proofs.Common.{◌≡◌, ◌∙◌, ap, sym, subst}
 use Rattle.ref_table.specs.Seats.{SeatState, StmState, terms_in}
 use Rattle.stm_core.specs.Running.{shown}
-use Rattle.stm_model.specs.Attempt.{Attempt}
 use Rattle.stm_model.specs.Moves.{AwaitsAsk}
-use Rattle.stm_model.specs.World.{cells_in}
-use Rattle.txn_run.specs.Flights.{FlightState, IsFlying}
+use Rattle.txn_run.specs.Flights.{FlightState}
 use Rattle.txn_run.proofs.Finishing.{late_led}
 use Rattle.txn_run.proofs.Standing.{finish_kept, kept_of, stands_of}
 use Rattle.txn_run.proofs.flights.Flight.end_late.Goals as goal
@@ -41,4 +39,4 @@ returns-clause-stands g c =
     let kept = kept_of _ _ _ _ t c.self.invariant.stands in
     let waits = subst AwaitsAsk (sym was) c.requires.ends.waits in
     stands_of lawful may (terms_in stm) c.end_late.new.seat u c.end_late.ensures.on c.end_late.ensures.rests
-          (finish_kept t u waits kept (late_led t u waits c.end_late.ensures.led c.end_late.ensures.rests))
+    (finish_kept t u waits kept (late_led t u waits c.end_late.ensures.led c.end_late.ensures.rests))

@@ -1,4 +1,4 @@
-use Rattle.std.proofs.Common.{◌≡◌, ◌∙◌, ap, sym, subst, Some}
+use Rattle.std.proofs.Common.{◌∙◌, ap, sym, subst}
 use Rattle.stm_core.specs.Running.{shown}
 use Rattle.stm_model.specs.Attempt.{Attempt}
 use Rattle.txn_drive.specs.Standing.{IsOver}
