@@ -1,4 +1,4 @@
--- Private: an attempt between two calls of its cells.
+-- Private, but for `cells_in_stm`, `state_on` and `Went`: an attempt between two calls of its cells.
 use Rattle.std.specs.Prelude.{◌≡◌, ◌≢◌, ℕ, ◌<◌, ◌≤◌, List, [], length, IfSome, None, Option, Result, Ok, Err, Some}
 use Rattle.ref_table.specs.Seats.{SeatState, StmState, terms_in}
 use Rattle.stm_core.specs.Running.{IsSound, shown}
