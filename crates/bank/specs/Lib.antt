@@ -1,0 +1,4 @@
+pub mod Statuses
+pub mod Causes
+pub mod Sums
+pub mod Ready

@@ -1,0 +1,4 @@
+pub mod Sizes
+pub mod Counting
+pub mod Heaps
+pub mod Turns
