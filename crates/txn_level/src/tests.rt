@@ -1,5 +1,5 @@
 //! Levels to the deepest, and what each hands back.
-use crate::{DEEPEST, Level, Levels, TooDeep, WriteMark};
+use crate::{DEEPEST, KeptLevels, Level, LevelFault, Levels, TooDeep, WriteMark};
 use std::process::Abort;
 
 // A level that is told by one number.
@@ -48,4 +48,16 @@ fn the_deepest_is_the_last(rt: HostRuntime) {
     assert_eq!(rt; levels.enter(level(65)), Ok(()));
     levels.clear();
     assert_eq!(rt; levels.depth(), 0);
+}
+
+#[test]
+fn kept_levels_are_as_deep(rt: HostRuntime) {
+    let mut levels = KeptLevels::new(rt.alloc());
+    for number in 0..64 {
+        assert_eq!(rt; levels.enter(level(number)), Ok(()));
+    }
+    assert_eq!(rt; levels.enter(level(64)), Err(LevelFault::TooDeep));
+    levels.clear();
+    assert_eq!(rt; levels.enter(level(65)), Ok(()));
+    assert_eq!(rt; levels.depth(), 1);
 }
