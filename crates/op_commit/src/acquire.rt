@@ -71,6 +71,7 @@ pub struct AcquireOp {
 
 impl AcquireOp {
     /// A first write that has made no access.
+    #[inline(always)]
     pub fn new(addr: Addr, own: u16, policy: Policy, noted: Option<u64>) -> AcquireOp
         requires own { own ≤ MAX_OWNER }
         requires looks { looks policy + 1 < 2 ^ 16 }
@@ -93,6 +94,7 @@ impl AcquireOp {
     }
 
     /// The next access, and none once the first write has ended.
+    #[inline(always)]
     #[tactic(auto, unfolding(stm_model::specs::Accesses::next_at, stm_model::specs::Accesses::access_of))]
     pub fn next<N: Notes>(&self, _notes: &N) -> Option<Access>
         requires { IsWithin self.now }
@@ -126,6 +128,7 @@ impl AcquireOp {
     }
 
     /// Takes the word that the access found.
+    #[inline(always)]
     #[tactic(auto, unfolding(stm_model::specs::After::after_at, stm_model::specs::Accesses::next_at, stm_model::specs::Accesses::answer_of))]
     pub fn take<N: Notes>(&mut self, _notes: &N, answer: u64)
         requires going { IsNone (end_of_acquire self.old) }
@@ -159,6 +162,7 @@ impl AcquireOp {
     }
 
     // The round begins: this meta word was loaded.
+    #[inline(always)]
     #[tactic(auto, unfolding(stm_model::specs::After::acquiring))]
     fn load_meta(&mut self, first: Meta)
         requires place { self.old.place ≡ at_acquire.AcquireMeta }
@@ -215,6 +219,7 @@ impl AcquireOp {
     }
 
     // The compare-exchange of the meta word found this.
+    #[inline(always)]
     #[tactic(auto, unfolding(stm_model::specs::After::exchanged))]
     fn exchange(&mut self, first: Meta, expected: Meta, again: bool, found: Meta)
         requires place { self.old.place ≡ at_acquire.Acquire first expected again }
@@ -318,6 +323,7 @@ impl AcquireOp {
     }
 
     /// How the first write ended, once it has.
+    #[inline(always)]
     pub fn end(&self) -> Option<AcquireEnd>
         ensures { result ≡ end_of_acquire self.now }
     {

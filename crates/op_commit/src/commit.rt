@@ -69,6 +69,7 @@ pub struct CommitOp {
 
 impl CommitOp {
     /// A commit that has made no access.
+    #[inline(always)]
     pub fn new(own: u16, serial: u64, tries: u16, limit: u64, writes: usize) -> CommitOp
         requires serial { serial ≤ MAX_SERIAL }
         requires limit { limit ≤ MAX_VERSION }
@@ -91,6 +92,7 @@ impl CommitOp {
     }
 
     /// The next access, and none at a stop and once the commit has ended.
+    #[inline(always)]
     #[tactic(auto, unfolding(stm_model::specs::Accesses::next_at, stm_model::specs::Accesses::access_of))]
     pub fn next<N: Notes>(&self, notes: &N) -> Option<Access>
         requires { IsAlong self.now (N.notes notes.now) }
@@ -130,6 +132,7 @@ impl CommitOp {
     }
 
     // The exchange of the own status from active to preparing.
+    #[inline(always)]
     fn status_exchange(&self) -> Access
         requires { self.now.serial ≤ MAX_SERIAL }
         ensures { result ≡ Exchange (Status self.now.own) (status_word (active self.now.serial)) (status_word (record { serial = self.now.serial; phase = Preparing })) }
@@ -142,6 +145,7 @@ impl CommitOp {
     }
 
     // The attempt's status word in this phase.
+    #[inline(always)]
     fn status_as(&self, phase: Phase) -> u64
         requires { self.now.serial ≤ MAX_SERIAL }
         ensures { result ≡ status_word (record { serial = self.now.serial; phase = phase }) }
@@ -153,6 +157,7 @@ impl CommitOp {
     }
 
     /// Takes the word that the access found.
+    #[inline(always)]
     #[tactic(auto, unfolding(stm_model::specs::After::after_at, stm_model::specs::After::final_runs, stm_model::specs::Accesses::next_at, stm_model::specs::Accesses::answer_of))]
     pub fn take<N: Notes>(&mut self, notes: &N, answer: u64)
         requires along { IsAlong self.old (N.notes notes.now) }
@@ -200,6 +205,7 @@ impl CommitOp {
     }
 
     // The exchange of its status found this.
+    #[inline(always)]
     #[tactic(auto, unfolding(stm_model::specs::After::prepared))]
     fn after_prepare(&self, found: TxnStatus) -> CommitPlace
         ensures shows { (t : Attempt) → t.due ≡ [] → IsCommitting self.now t →
@@ -215,6 +221,7 @@ impl CommitOp {
     }
 
     // The cells before this index are marked.
+    #[inline(always)]
     fn mark_from(&self, index: usize) -> CommitPlace
         requires { index ≤ self.now.writes }
         ensures comes { ComesTo self.now result (λ t. mark_on (in_preparation t) (drop index t.now.writes)) }
@@ -230,6 +237,7 @@ impl CommitOp {
     }
 
     // Of so many notes, those before this index hold good at the clock.
+    #[inline(always)]
     #[tactic(auto, unfolding(stm_model::specs::After::validate_on))]
     fn validate_from(&self, lost: u16, clock: u64, index: usize, count: usize) -> CommitPlace
         requires behind { self.now.writes ≤ index }
@@ -255,6 +263,7 @@ impl CommitOp {
     }
 
     // The exchange of the clock found this.
+    #[inline(always)]
     #[tactic(auto, unfolding(stm_model::specs::After::decided))]
     fn after_decide(&self, lost: u16, clock: u64, found: u64) -> CommitPlace
         requires { clock < self.now.limit }
@@ -276,6 +285,7 @@ impl CommitOp {
     }
 
     // The values before this index are stored.
+    #[inline(always)]
     fn store_from(&self, stamp: u64, index: usize) -> CommitPlace
         requires { index ≤ self.now.writes }
         ensures comes { ComesTo self.now result (λ t. store_on (stamped t stamp) (drop index t.now.writes)) }
@@ -291,6 +301,7 @@ impl CommitOp {
     }
 
     // The cells before this index are released.
+    #[inline(always)]
     fn release_from(&self, stamp: u64, index: usize) -> CommitPlace
         requires { index ≤ self.now.writes }
         ensures comes { ComesTo self.now result (λ t. release_on (stamped t stamp) (drop index t.now.writes)) }
@@ -306,6 +317,7 @@ impl CommitOp {
     }
 
     /// Goes on after the handlers of a stop have run.
+    #[inline(always)]
     pub fn resume(&mut self)
         requires stop { IsStop self.old.place }
         ensures shows { (t : Attempt) → IsCommitting self.old t → committing self.new t ≡ committing self.old t }
@@ -323,6 +335,7 @@ impl CommitOp {
     }
 
     /// The cell whose pending bit the last access found.
+    #[inline(always)]
     pub fn rings(&self) -> Option<Addr>
         ensures { result ≡ self.now.rung }
     {
@@ -330,6 +343,7 @@ impl CommitOp {
     }
 
     /// How the commit ended, once it has, and where it stops.
+    #[inline(always)]
     pub fn end(&self) -> Option<CommitEnd>
         ensures { result ≡ end_of_commit self.now }
     {
@@ -341,6 +355,7 @@ impl CommitOp {
 }
 
 // The attempt is to be rolled back at the prefix that it has.
+#[inline(always)]
 fn refused(cause: Cause) -> CommitPlace
     ensures { result ≡ at_commit.Ended (Bad cause None) }
 {
@@ -351,6 +366,7 @@ fn refused(cause: Cause) -> CommitPlace
 }
 
 // The word of a cell of this version that nobody owns or waits for.
+#[inline(always)]
 fn released_word(version: u64) -> u64
     requires { version ≤ MAX_VERSION }
     ensures { result ≡ meta_word (released version) }

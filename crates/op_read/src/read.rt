@@ -46,6 +46,7 @@ pub struct ReadOp {
 
 impl ReadOp {
     /// A read that has made no access. It has one round more than `looks`.
+    #[inline(always)]
     pub fn new(addr: Addr, own: u16, prefix: u64, looks: u16) -> ReadOp
         ensures begins { (t : Attempt) → reading result t ≡ at t (ReadMeta addr.0 looks) }
         ensures cell { result.addr ≡ addr }
@@ -63,6 +64,7 @@ impl ReadOp {
     }
 
     /// The next access, and none once the read has ended.
+    #[inline(always)]
     #[tactic(auto, unfolding(stm_model::specs::Accesses::next_at, stm_model::specs::Accesses::access_of))]
     pub fn next<N: Notes>(&self, _notes: &N) -> Option<Access>
         ensures access { IsNone (end_of_read self.now) → (t : Attempt) → t.due ≡ [] → result ≡ next_access (reading self.now t) }
@@ -79,6 +81,7 @@ impl ReadOp {
     }
 
     /// Takes the word that the access found.
+    #[inline(always)]
     #[tactic(auto, unfolding(stm_model::specs::After::after_at, stm_model::specs::Accesses::next_at, stm_model::specs::Accesses::answer_of))]
     pub fn take<N: Notes>(&mut self, _notes: &N, answer: u64)
         requires { IsNone (end_of_read self.old) }
@@ -103,6 +106,7 @@ impl ReadOp {
     }
 
     // The round begins: this meta word was loaded.
+    #[inline(always)]
     #[tactic(auto, unfolding(stm_model::specs::After::meta_read))]
     fn load_meta(&mut self, first: Meta)
         requires { self.old.place ≡ at_read.ReadMeta }
@@ -123,6 +127,7 @@ impl ReadOp {
     }
 
     // The meta word was loaded again, as this.
+    #[inline(always)]
     #[tactic(auto, unfolding(stm_model::specs::After::validated))]
     fn validate(&mut self, first: Meta, value: u64, second: Meta)
         requires { self.old.place ≡ at_read.Validate first value }
@@ -175,6 +180,7 @@ impl ReadOp {
     }
 
     /// How the read ended, once it has.
+    #[inline(always)]
     pub fn end(&self) -> Option<ReadEnd>
         ensures { result ≡ end_of_read self.now }
     {
