@@ -15,7 +15,7 @@ use Rattle.stm_core.specs.declared.running.Running.{Running}
 use Rattle.stm_core.specs.declared.running.State.{State}
 use Rattle.stm_core.specs.declared.running.State.TheVariants as in_state
 use Rattle.stm_model.specs.declared.access.Ask.{Ask}
-use Rattle.stm_model.specs.declared.access.Ask.TheVariants.{Abandon, Finish, Get, Hook, Keep, Later, Set, Undo}
+use Rattle.stm_model.specs.declared.access.Ask.TheVariants.{Abandon, Enter, Finish, Get, Hook, Keep, Later, Set, Undo}
 use Rattle.stm_model.specs.declared.cause.Cause.{Cause}
 use Rattle.stm_model.specs.declared.cause.Cause.TheVariants.{Memory}
 use Rattle.stm_model.specs.After.{at, note_of, rolled, stopped}
@@ -220,6 +220,7 @@ less_spare r (Set cell value) sound (inr first) = let alike = shown_alike r soun
   written = subst (λ writes. IsTrue (writes_to writes cell.0)) alike.writes first.written;
   unwritten = subst (λ books. IsFalse (writes_to (former_writes books) cell.0)) alike.saved first.unwritten;
 })
+less_spare r Enter sound inside = subst (λ books. 0 < length books) (shown_alike r sound).saved inside
 less_spare r (Hook phase token) sound some = some
 less_spare r (Later token) sound some = some
 less_spare r ask sound some = tt

@@ -9,7 +9,7 @@ use Rattle.stm_core.specs.declared.next.Reply.TheVariants as reply
 use Rattle.stm_model.specs.declared.access.Access.{Access}
 use Rattle.stm_model.specs.declared.access.Access.TheVariants.{Exchange, Load}
 use Rattle.stm_model.specs.declared.access.Ask.{Ask}
-use Rattle.stm_model.specs.declared.access.Ask.TheVariants.{Abandon, Finish, Get, Hook, Later, Set, Undo}
+use Rattle.stm_model.specs.declared.access.Ask.TheVariants.{Abandon, Enter, Finish, Get, Hook, Later, Set, Undo}
 use Rattle.stm_model.specs.declared.access.Word.TheVariants.{Clock}
 use Rattle.stm_model.specs.declared.cause.Cause.{Cause}
 use Rattle.stm_model.specs.declared.ending.Ending.{Ending}
@@ -183,10 +183,11 @@ pub record IsFirstSince (writes former : List (ℕ × ℕ)) (cell : ℕ) : Type 
   pub written : IsTrue (writes_to writes cell)
   pub unwritten : IsFalse (writes_to former cell)
 
--- The ask takes no memory where so many first reads and first writes are spare. A rewrite takes none where the cell was first written in the innermost level, or no level is open.
+-- The ask takes no memory where so many first reads and first writes are spare. A rewrite takes none where the cell was first written in the innermost level, or no level is open. A level inside another takes none.
 abbrev pub TakesNoMemory : (reads writes : ℕ) → Attempt → Ask → Type 0
 TakesNoMemory reads writes t (Get cell) = 0 < reads
 TakesNoMemory reads writes t (Set cell value) = (IsFalse (writes_to t.now.writes cell.0) × (0 < writes)) ⊎ IsFirstSince t.now.writes (former_writes t.saved) cell.0
+TakesNoMemory reads writes t Enter = 0 < length t.saved
 TakesNoMemory reads writes t (Hook phase token) = ⊥
 TakesNoMemory reads writes t (Later token) = ⊥
 TakesNoMemory reads writes t ask = Unit {0}

@@ -21,6 +21,7 @@ use Rattle.read_set.specs.Reads.{Reads}
 use Rattle.stm_core.specs.Machine.{HasSpare, Machine, SettingsFit, TakesNoMemory, accesses_asked, reads_asked, writes_asked}
 use Rattle.stm_core.specs.Marked.{AreMarked}
 use Rattle.stm_core.specs.Past.{book_of, books_in, rings_in, runs_in}
+use Rattle.stm_core.specs.declared.footprint.Footprint.{Footprint}
 use Rattle.stm_core.specs.declared.running.Dues.{Dues}
 use Rattle.stm_core.specs.declared.running.Running.{Running}
 use Rattle.stm_core.specs.declared.running.State.{State}
@@ -220,6 +221,14 @@ pub record NumbersFit (number serial : ℕ) (settings : Settings) : Type 0 where
   pub own : number ≤ MAX_OWNER
   pub serials : serial ≤ MAX_SERIAL
   pub limits : SettingsFit settings
+
+-- Nothing is noted, written or registered in them, and no level is open.
+pub record AreUnused (footprint : Footprint) (registered : Registered) (levels : List Level) : Type 0 where
+  pub reads : footprint.reads.notes ≡ []
+  pub writes : footprint.writes.writes ≡ []
+  pub hooks : registered.hooks ≡ []
+  pub laters : registered.laters ≡ []
+  pub closed : levels ≡ []
 
 -- Its numbers fit, and the levels lead back to their books.
 pub record IsKept (number serial : ℕ) (settings : Settings) (writes : Buffer) (registered : Registered) (levels : List Level) (books : List Book) : Type 0 where

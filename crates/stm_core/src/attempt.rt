@@ -182,7 +182,9 @@ impl Attempt {
         requires { self.attempt.stage ≡ Ended }
         ensures { result.notes ≡ self.attempt.notes }
     {
-        self.running.footprint.reads
+        let running = self.running;
+        let footprint = running.footprint;
+        footprint.reads
     }
 }
 

@@ -15,11 +15,11 @@ use crate::running::{Dues, Running, State};
 use lifecycle::{Stage, Walk};
 use op_commit::{BackEnd, BackOp};
 use stm_model::{Cause, Level};
-use txn_level::TooDeep;
+use txn_level::LevelFault;
 
 #[tactic(auto, unfolding(crate::specs::Running::attempt_at, crate::specs::Running::left_at, crate::specs::Running::InvariantAt, crate::specs::Running::reads_under_way, crate::specs::Running::writes_under_way, stm_model::specs::Moves::asked_going, stm_model::specs::Moves::MayRunOut, crate::specs::Machine::accesses_asked, crate::specs::Machine::reads_asked, crate::specs::Machine::writes_asked))]
 impl Running {
-    /// Enters a level, unless as many as may be are open.
+    /// Enters a level, unless as many as may be are open. Only one inside no other takes memory.
     pub fn enter(&mut self)
         requires { IsFree self.old }
         ensures { Answers Enter self.old self.new }
@@ -35,7 +35,8 @@ impl Running {
                 self.past.enter(&self.footprint.writes, &self.handlers);
                 self.state = State::Ready(None);
             }
-            Err(TooDeep) => self.state = State::Stopped(Cause::TooDeep { depth }),
+            Err(LevelFault::TooDeep) => self.state = State::Stopped(Cause::TooDeep { depth }),
+            Err(LevelFault::Memory) => self.state = State::Stopped(Cause::Memory),
         }
     }
 

@@ -1,8 +1,9 @@
 //! An attempt as it is kept: what it has read and written, and the operation that it is in the middle of.
-ghost use Rattle.std.specs.Prelude.{◌≡◌, ◌≢◌, ◌<◌, ◌≤◌, ◌+◌, ◌↔◌, IfOk, IfSome, IsOk, IsTrue, OnOk, Some, length};
+ghost use Rattle.std.specs.Prelude.{◌≡◌, ◌≢◌, ◌<◌, ◌≤◌, ◌+◌, ◌↔◌, IfOk, IfSome, IsOk, IsTrue, None, OnOk, Some, length};
+ghost use Rattle.meta_word.specs.declared.status.Phase.TheVariants.{Active};
 ghost use Rattle.meta_word.specs.declared.status.TheConstants.{MAX_SERIAL};
 ghost use Rattle.stm_core.specs.Machine.{HasSpare, named, next_of, standing};
-ghost use Rattle.stm_core.specs.Running.{IsSound, NumbersFit, left_in, machine_of, reads_under_way, shown, writes_under_way};
+ghost use Rattle.stm_core.specs.Running.{AreUnused, IsSound, NumbersFit, left_in, machine_of, reads_under_way, shown, writes_under_way};
 ghost use Rattle.stm_core.specs.declared.next.Next.TheVariants as coming;
 ghost use Rattle.stm_core.specs.declared.next.Reply.{Reply as ReplyOf};
 ghost use Rattle.stm_core.specs.declared.next.Reply.TheVariants as reply;
@@ -21,7 +22,7 @@ use op_read::{ExtendOp, ReadOp};
 use read_set::ReadSet;
 use std::alloc::Global;
 use stm_model::{Access, Addr, Cause, Ending, Memory, Meta, Settings, TxnStatus, Word};
-use txn_level::Levels;
+use txn_level::KeptLevels;
 use write_buffer::WriteBuffer;
 
 /// The state of an attempt. In the middle of an operation it is that operation.
@@ -85,7 +86,7 @@ pub struct Running {
     pub footprint: Footprint,
     pub handlers: Handlers,
     /// What stood where each open level was entered.
-    pub levels: Levels,
+    pub levels: KeptLevels,
     /// How many before-commit bodies have had their turn.
     pub turn: usize,
     pub due: Dues,
@@ -112,7 +113,7 @@ impl Running {
                 writes: WriteBuffer::new(alloc),
             },
             handlers: Handlers::new(alloc),
-            levels: Levels::new(),
+            levels: KeptLevels::new(alloc),
             turn: 0,
             due: Dues {
                 ring: None,
@@ -120,6 +121,41 @@ impl Running {
             },
             past: Past::Nothing,
             state: State::Announce,
+        }
+    }
+
+    /// An attempt that has just loaded the clock as this, with the memory of what is handed in.
+    #[inline(always)]
+    #[tactic(auto, unfolding(crate::specs::Running::attempt_at, crate::specs::Running::InvariantAt, crate::specs::Past::books_in, crate::specs::Past::rings_in, crate::specs::Past::runs_in, crate::specs::Marked::AreMarked))]
+    pub fn begun(
+        own: u16,
+        serial: u64,
+        settings: Settings,
+        prefix: u64,
+        footprint: Footprint,
+        handlers: Handlers,
+        levels: KeptLevels,
+    ) -> Running
+        requires numbers { NumbersFit own serial settings }
+        requires unused { AreUnused footprint handlers levels }
+        ensures shown { shown result ≡ record (no_attempt own settings) { serial = serial; phase = Active; prefix = prefix; stage = Ready None } }
+        ensures sound { IsSound result }
+    {
+        Running {
+            own,
+            serial,
+            settings,
+            prefix,
+            footprint,
+            handlers,
+            levels,
+            turn: 0,
+            due: Dues {
+                ring: None,
+                runs: None,
+            },
+            past: Past::Nothing,
+            state: State::Ready(None),
         }
     }
 
