@@ -4,7 +4,7 @@ ghost use Rattle.ref_table.specs.Calls.{AreEmpty, KeepsRoom};
 use lifecycle::Handlers;
 use read_set::ReadSet;
 use std::alloc::Global;
-use txn_level::Levels;
+use txn_level::KeptLevels;
 use write_buffer::WriteBuffer;
 
 /// Room for the notes, the writes, the handlers and the levels of an attempt.
@@ -13,7 +13,7 @@ pub struct Lists {
     pub reads: ReadSet,
     pub writes: WriteBuffer,
     pub handlers: Handlers,
-    pub levels: Levels,
+    pub levels: KeptLevels,
 }
 
 impl Lists {
@@ -25,7 +25,7 @@ impl Lists {
             reads: ReadSet::new(alloc),
             writes: WriteBuffer::new(alloc),
             handlers: Handlers::new(alloc),
-            levels: Levels::new(),
+            levels: KeptLevels::new(alloc),
         }
     }
 
