@@ -8,9 +8,13 @@ use Rattle.stm_model.specs.declared.settings.Settings.{Settings}
 use Rattle.txn_drive.specs.Going.{SeesMore}
 use Rattle.txn_drive.specs.Standing.{IsOn}
 
+-- a caller's attempt of this number, before its first access
+abbrev pub unbegun : (number serial : ℕ) → Settings → Attempt
+unbegun number serial settings = record (no_attempt number settings) { serial = serial; stage = Announce }
+
 -- the caller's next attempt, before its first access
 abbrev pub first_of : SeatState → Settings → Attempt
-first_of seat settings = record (no_attempt seat.number settings) { serial = suc seat.view.attempt.serial; stage = Announce }
+first_of seat settings = unbegun seat.number (suc seat.view.attempt.serial) settings
 
 -- the same once it has loaded the clock, and waits to be asked
 abbrev pub begun : SeatState → Settings → (prefix : ℕ) → Attempt
