@@ -1,0 +1,5 @@
+pub mod Committing
+pub mod Gone
+pub mod Reads
+pub mod Sought
+pub mod Writing
