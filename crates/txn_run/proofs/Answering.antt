@@ -1,10 +1,14 @@
 -- What an attempt that rests does next tells what it was answered by.
-use Rattle.std.proofs.Common.{◌≡◌, ◌≢◌, List, [], Option, Some, None, Ok, refl, sym, ap, subst, ◌∙◌, ⊎_elim}
+use Rattle.std.proofs.Common.{◌≡◌, ◌≢◌, ℕ, List, [], Option, Some, None, Ok, refl, sym, ap, subst, ◌∙◌, ⊎_elim}
 use Rattle.stm_core.specs.Machine as Machine
 use Rattle.stm_core.specs.Machine.{after_due, next_of, standing}
+use Rattle.stm_core.specs.Running.{attempt_at, base, shown}
 use Rattle.stm_core.specs.declared.next.Next.{Next}
 use Rattle.stm_core.specs.declared.next.Next.TheVariants as coming
 use Rattle.stm_core.specs.declared.next.Reply.TheVariants as reply
+use Rattle.stm_core.specs.declared.running.Running.{Running}
+use Rattle.stm_core.specs.declared.running.State.{State}
+use Rattle.stm_core.specs.declared.running.State.TheVariants as in_state
 use Rattle.stm_model.specs.Attempt.{Attempt, Due, Ended, Late, Ready, Stage, Stopped}
 use Rattle.stm_model.specs.Moves.{AwaitsAsk, AwaitsAskAt}
 use Rattle.stm_model.specs.declared.ending.Ending.{Ending}
@@ -78,3 +82,17 @@ ending_next t next over is = ending_found t.ending next (next_over t next over i
 
 pub has_ended : (t : Attempt) (next : Next) → IsOver t → next_of t ≡ Some next → ending_by next ≢ None
 has_ended t next over is none = some_found t.ending next (next_over t next over is) (sym (ending_next t next over is) ∙ none)
+
+-- ---- what an attempt as it is kept tells without a look at what comes next
+
+pub ready_told : (r : Running) (told : Option ℕ) → r.state ≡ in_state.Ready told → told_at (shown r).stage ≡ Ok told
+unfolding attempt_at told_at
+ready_told r told is = ap (λ (state : State). told_at (attempt_at (base r) state).stage) is
+
+pub ended_turns : (r : Running) (ending : Ending) → r.state ≡ in_state.Ended ending → token_at (shown r).stage ≡ None
+unfolding attempt_at token_at
+ended_turns r ending is = ap (λ (state : State). token_at (attempt_at (base r) state).stage) is
+
+pub ended_so : (r : Running) (ending : Ending) → r.state ≡ in_state.Ended ending → (shown r).ending ≡ Some ending
+unfolding attempt_at
+ended_so r ending is = ap (λ (state : State). (attempt_at (base r) state).ending) is

@@ -164,10 +164,10 @@ module _ {S : Type 0} (lawful : List ℕ → Type 0) (may : List ℕ → List �
 
   module _ {T : Type 0} (whole : T → List ℕ → Book → Type 0) where
     commits : (out : T) (stamp : ℕ) → u.ending ≡ Some (Committed stamp) → ((heap : List ℕ) (book : Book) → ends heap book → whole out heap book)
-        → (x : Attempt) → AwaitsAsk x → x.phase ≡ Active → IsLed (conclude x x.now.writes) u
+        → (x : Attempt) → AwaitsAsk x → x.phase ≡ Active → IsLed (conclude x x.now.writes) u → 0 < length x.now.writes
         → ((heap : List ℕ) → IsPossible lawful (cells_in_stm stm) x.notes heap → ends heap x.now × leaves heap)
         → CommittedAs whole stm.opening (caller_of before runs rings) (caller_of after runs_then rings_then) out stamp
-    commits out stamp is ran x waits active leads holds =
+    commits out stamp is ran x waits active leads some holds =
         let is_so = known_ending (Committed stamp) is in
         let closes = concluded_keeps x leads in record {
           ending = is_so;
@@ -177,6 +177,7 @@ module _ {S : Type 0} (lawful : List ℕ → Type 0) (may : List ℕ → List �
           only = only_one lawful may (terms_in stm) before after able.safe on.safe sees known_serial stamp is_so;
           book = x.now;
           has = kept_book x closes;
+          some = some;
           whole = ran (heap_at (stamp - 1)) x.now (holds (heap_at (stamp - 1)) (stamp_possible x stamp closes is)).0;
           runs = concluded_tells x (Committed stamp) waits active leads is;
         }
@@ -184,7 +185,11 @@ module _ {S : Type 0} (lawful : List ℕ → Type 0) (may : List ℕ → List �
     pub committed : (out : T) (stamp : ℕ) → u.ending ≡ Some (Committed stamp) → ((heap : List ℕ) (book : Book) → ends heap book → whole out heap book)
         → CommittedAs whole stm.opening (caller_of before runs rings) (caller_of after runs_then rings_then) out stamp
     committed out stamp is ran = elim comes [
-      | concluded x waits active leads holds ↦ commits out stamp is ran x waits active leads holds
+      | concluded x waits active leads holds ↦ elim (conclude_ends x u leads over.stage) [
+        | reader none was ↦ absurd (cc (is, was))
+        | writer other some was ↦ commits out stamp is ran x waits active leads some holds
+        | undone cause last some of was ↦ absurd (cc (is, was))
+      ]
       | rolled_then x cause waits active of leads left gave ↦ absurd (cc (is, rolled_ends x u cause leads over.stage))
     ]
 

@@ -51,6 +51,10 @@ begins_with lawful may stm before after same empty begins = subst (MayBegin lawf
   lists = empty;
 })
 
+-- Lists put in place of others, twice.
+pub lists_twice : (before between after : SeatState) → between ≡ record before { lists = between.lists } → after ≡ record between { lists = after.lists } → after ≡ record before { lists = after.lists }
+lists_twice before between after one two = two ∙ ap (λ (s : SeatState). record s { lists = after.lists }) one
+
 pub fresh_begun : (lawful : List ℕ → Type 0) (may : List ℕ → List ℕ → Type 0) (terms : Terms) (settings : Settings) (before after : SeatState) (t : Attempt)
     → IsBegun lawful may terms settings before after t → IsFresh t
 fresh_begun lawful may terms settings before after t begun = record {

@@ -27,7 +27,7 @@ pub record Made (attempts : ℕ) (before after : CallerState) : Type 0 where
   pub waits : after.view.waits ≡ before.view.waits
   pub rings : TellsMore before.rings after.rings after.view.attempt.rings
 
--- It committed with this stamp: the entry at that place is the attempt's and its caller's only new one, and on the heap before it the body and its before-commit bodies ran to this end.
+-- It committed with this stamp, and wrote something: the entry at that place is the attempt's and its caller's only new one, and on the heap before it the body and its before-commit bodies ran to this end.
 pub record CommittedAs {T : Type 0} (ends : T → List ℕ → Book → Type 0) (opening : List ℕ) (before after : CallerState) (out : T) (stamp : ℕ) : Type 0 where
   pub ending : after.view.attempt.ending ≡ Some (Committed stamp)
   pub low : length before.seen < stamp
@@ -36,6 +36,7 @@ pub record CommittedAs {T : Type 0} (ends : T → List ℕ → Book → Type 0) 
   pub only : (n : ℕ) → length before.seen ≤ n → n < length after.seen → (entry_after after.seen n).caller ≡ before.number → n ≡ stamp - 1
   pub book : Book
   pub has : HasBook after.view.attempt book
+  pub some : 0 < length book.writes
   pub whole : ends out (state opening after.seen (stamp - 1)) book
   pub runs : TellsMore before.runs after.runs (book.runs ++ completing book.hooks)
 

@@ -1,5 +1,6 @@
 //! Attempts of a caller.
 ghost use Rattle.std.specs.Prelude.{◌≡◌, ◌↔◌, ◌≤◌, ℕ, IsTrue};
+ghost use Rattle.ref_table.specs.Calls.{AreEmpty};
 ghost use Rattle.stm_model.specs.Whole.{Whole};
 ghost use Rattle.stm_model.specs.declared.cause.Cause.TheVariants.{AttemptsEnd};
 ghost use Rattle.txn_run.specs.declared.callers.Outcome.TheVariants as with;
@@ -11,8 +12,7 @@ ghost use Rattle.txn_run.specs.Outcomes.{Concludes, HandsBack};
 use crate::callers::{Caller, Outcome};
 use crate::making::make;
 use read_set::ReadSet;
-use ref_table::{Lists, Seat, Stm};
-use std::alloc::Global;
+use ref_table::{Seat, Stm};
 use std::mem::replace;
 use stm_model::{Bell, Body, Cause, Hooks, Law};
 
@@ -23,7 +23,6 @@ use stm_model::{Bell, Body, Cause, Hooks, Law};
 /// cells answered, also where the body went on after that, with the one that its commit meets, or where memory is
 /// out. After as many attempts as the settings allow none is made, and the cause is `AttemptsEnd`.
 pub fn attempt<L: Law, R: Bell, B: Body<L>, H: Hooks>(
-    alloc: Global,
     caller: &mut Caller<'_, L, R>,
     body: &mut B,
     hooks: &mut H,
@@ -42,14 +41,13 @@ pub fn attempt<L: Law, R: Bell, B: Body<L>, H: Hooks>(
     if is_spent(caller.seat, caller.stm) {
         return spent(caller.seat);
     }
-    let (outcome, lists) = make(alloc, caller.seat, caller.stm, caller.bell, hooks, body);
+    let (outcome, lists) = make(caller.seat, caller.stm, caller.bell, hooks, body);
     caller.seat.give_back(lists);
     outcome
 }
 
 /// Makes one attempt as `attempt` does, and hands back what it read, with the versions.
 pub fn attempt_noting<L: Law, R: Bell, B: Body<L>, H: Hooks>(
-    alloc: Global,
     caller: &mut Caller<'_, L, R>,
     body: &mut B,
     hooks: &mut H,
@@ -67,16 +65,17 @@ pub fn attempt_noting<L: Law, R: Bell, B: Body<L>, H: Hooks>(
     ensures fits { (law : L) (size : ℕ) → B.fits body.old law size ↔ B.fits body.new law size }
 {
     if is_spent(caller.seat, caller.stm) {
-        return (spent(caller.seat), ReadSet::new(alloc));
+        return (spent(caller.seat), take_reads(caller.seat));
     }
-    let (outcome, lists) = make(alloc, caller.seat, caller.stm, caller.bell, hooks, body);
+    let (outcome, lists) = make(caller.seat, caller.stm, caller.bell, hooks, body);
     let mut lists = lists;
-    let reads = replace(&mut lists.reads, ReadSet::new(alloc));
+    let reads = replace(&mut lists.reads, take_reads(caller.seat));
     caller.seat.give_back(lists);
     (outcome, reads)
 }
 
 // Whether all attempts that there may be were made.
+#[inline(always)]
 fn is_spent<L: Law>(seat: &Seat<L>, stm: &Stm<L>) -> bool
     ensures { IsTrue result ↔ (stm.now.settings.attempts ≤ (attempt_in seat.now).serial) }
 {
@@ -93,4 +92,13 @@ fn spent<L, T>(seat: &Seat<L>) -> Outcome<T>
         },
         prefix: seat.clock(),
     }
+}
+
+// The seat's list for what is read. All its lists are new ones then.
+fn take_reads<L>(seat: &mut Seat<L>) -> ReadSet
+    ensures taken { result ≡ seat.old.lists.reads }
+    ensures same { seat.new ≡ record seat.old { lists = seat.new.lists } }
+    ensures empty { AreEmpty seat.new.lists }
+{
+    seat.lend().reads
 }

@@ -12,6 +12,7 @@ use ref_table::{Seat, Stm};
 use stm_model::{Bell, Body, Cause, Hooks, Law};
 
 /// Runs the body on the cells of the attempt.
+#[inline(always)]
 pub fn run_body<'a, L: Law, R: Bell, H: Hooks, B: Body<L>>(
     seat: &'a mut Seat<L>,
     stm: &'a Stm<L>,
@@ -95,6 +96,7 @@ pub fn run_late<'a, L: Law, R: Bell, H: Hooks, B: Body<L>>(
 }
 
 // What was lent to an attempt is there again.
+#[inline(always)]
 fn touch<S, R, H, F>(_seat: &mut S, _bell: &mut R, _hooks: &mut H, _flight: &mut F)
     ensures seat { _seat.new ≡ _seat.old }
     ensures bell { _bell.new ≡ _bell.old }

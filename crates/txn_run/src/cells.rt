@@ -52,6 +52,7 @@ pub struct Txn<'a, L: HeapLaw, R: Bell, H: Hooks> {
 
 impl<'a, L: HeapLaw, R: Bell, H: Hooks> Txn<'a, L, R, H> {
     // It is asked for something, and tells what it was answered by.
+    #[inline(always)]
     fn ask(&mut self, ask: Ask) -> Result<Option<u64>, Cause>
         requires body { IsOfBodies ask }
         requires able { MayAsk (cells_in_stm self.old.stm.now) self.old.flight.now.attempt ask }
@@ -97,6 +98,7 @@ impl<'a, L: HeapLaw, R: Bell, H: Hooks> Cells<L> for Txn<'a, L, R, H> {
         self.stm.cells()
     }
 
+    #[inline(always)]
     fn get(&mut self, addr: Addr) -> Result<u64, Cause> {
         match self.ask(Ask::Get(addr)) {
             Ok(Some(value)) => Ok(value),
@@ -105,6 +107,7 @@ impl<'a, L: HeapLaw, R: Bell, H: Hooks> Cells<L> for Txn<'a, L, R, H> {
         }
     }
 
+    #[inline(always)]
     fn set(&mut self, addr: Addr, value: u64) -> Result<(), Cause> {
         match self.ask(Ask::Set(addr, value)) {
             Ok(_) => Ok(()),

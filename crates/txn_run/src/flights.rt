@@ -16,7 +16,6 @@ ghost use Rattle.txn_drive.specs.Standing.{IsOver, Rests};
 ghost use Rattle.txn_run.specs.Told.{ending_by, token_at, token_by, told_by};
 
 use ref_table::{Lists, Seat, Stm};
-use std::alloc::Global;
 use std::marker::Model;
 use std::snapshot::Snapshot;
 use stm_core::{Next, Reply, State};
@@ -46,7 +45,8 @@ impl<L: Law> Flight<L> {
     ghost use Rattle.txn_run.specs.Flights.{IsHere, MayBeAsked, MayEndLate, Stands, told_at};
 
     /// The caller's next attempt begins, with these lists.
-    pub fn begin(alloc: Global, seat: &mut Seat<L>, stm: &Stm<L>, lists: Lists) -> Flight<L>
+    #[inline(always)]
+    pub fn begin(seat: &mut Seat<L>, stm: &Stm<L>, lists: Lists) -> Flight<L>
         requires own { seat.old.table ≡ stm.now.table }
         requires safe { SafeSeat (L.lawful stm.now.law) (L.may stm.now.law) (terms_in stm.now) seat.old }
         requires over { seat.old.view.attempt.stage ≡ Ended }
@@ -55,7 +55,7 @@ impl<L: Law> Flight<L> {
         ensures begun { IsBegun (L.lawful stm.now.law) (L.may stm.now.law) (terms_in stm.now) stm.now.settings seat.old seat.new result.attempt }
         ensures here { IsHere stm.now seat.new result }
     {
-        let running = txn_drive::begin(alloc, seat, stm, lists);
+        let running = txn_drive::begin(seat, stm, lists);
         Flight {
             stm: Snapshot::of(stm),
             seat: Snapshot::of(seat),
@@ -64,6 +64,7 @@ impl<L: Law> Flight<L> {
     }
 
     /// What is known of it.
+    #[inline(always)]
     pub fn stands(&self)
         ensures { Stands (L.lawful self.now.stm.law) (L.may self.now.stm.law) (terms_in self.now.stm) self.now.seat self.now.attempt }
     {
@@ -71,6 +72,7 @@ impl<L: Law> Flight<L> {
     }
 
     /// It is asked for something, and goes on until it waits to be asked again, or is over.
+    #[inline(always)]
     pub fn ask<R: Bell, H: Hooks>(
         &mut self,
         seat: &mut Seat<L>,
@@ -86,7 +88,7 @@ impl<L: Law> Flight<L> {
         ensures continues { Continues (moment seat.old self.old.attempt (H.runs hooks.old) (R.rings bell.old)) (moment seat.new self.new.attempt (H.runs hooks.new) (R.rings bell.new)) }
         ensures stands { Stands (L.lawful stm.now.law) (L.may stm.now.law) (terms_in stm.now) seat.new self.new.attempt }
     {
-        txn_drive::ask(seat, stm, bell, hooks, &mut self.running, ask);
+        txn_quick::ask(seat, stm, bell, hooks, &mut self.running, ask);
         self.seat = Snapshot::of(seat);
     }
 
@@ -110,20 +112,29 @@ impl<L: Law> Flight<L> {
     }
 
     /// What the last ask was answered by.
+    #[inline(always)]
     pub fn told(&self) -> Result<Option<u64>, Cause>
         ensures { result ≡ told_at self.now.attempt.stage }
     {
-        answer_of(self.running.next())
+        match self.running.state {
+            State::Ready(told) => Ok(told),
+            _ => answer_of(self.running.next()),
+        }
     }
 
     /// The token of the before-commit body that has its turn.
+    #[inline(always)]
     pub fn late(&self) -> Option<u64>
         ensures { result ≡ token_at self.now.attempt.stage }
     {
-        token_of(self.running.next())
+        match self.running.state {
+            State::Ended(_) => None,
+            _ => token_of(self.running.next()),
+        }
     }
 
     /// How many before-commit bodies have had their turn.
+    #[inline(always)]
     pub fn turn(&self) -> usize
         ensures { result ≡ self.now.attempt.turn }
     {
@@ -131,10 +142,14 @@ impl<L: Law> Flight<L> {
     }
 
     /// How it ended, once it is over.
+    #[inline(always)]
     pub fn ending(&self) -> Ending
         requires { IsOver self.now.attempt }
         ensures { self.now.attempt.ending ≡ Some result }
     {
+        if let State::Ended(ending) = self.running.state {
+            return ending;
+        }
         match ending_of(self.running.next()) {
             Some(ending) => ending,
             None => unreachable!(),
@@ -142,6 +157,7 @@ impl<L: Law> Flight<L> {
     }
 
     /// The attempt as it was kept.
+    #[inline(always)]
     pub fn into_running(self) -> Running
         ensures { result.footprint.reads.notes ≡ self.attempt.notes }
     {

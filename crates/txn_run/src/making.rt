@@ -21,13 +21,12 @@ use crate::callers::Outcome;
 use crate::flights::Flight;
 use crate::to_end::take_turns;
 use ref_table::{Lists, Seat, Stm};
-use std::alloc::Global;
 use stm_model::{Bell, Body, Ending, Hooks, Law};
 use txn_drive::{Ask, Running};
 
 /// The caller's next attempt is made. The seat's lists are handed out.
+#[inline(always)]
 pub fn make<L: Law, R: Bell, H: Hooks, B: Body<L>>(
-    alloc: Global,
     seat: &mut Seat<L>,
     stm: &Stm<L>,
     bell: &mut R,
@@ -48,13 +47,14 @@ pub fn make<L: Law, R: Bell, H: Hooks, B: Body<L>>(
     ensures fits { (law : L) (size : ℕ) → B.fits body.old law size ↔ B.fits body.new law size }
 {
     let lists = seat.lend();
-    let mut flight = Flight::begin(alloc, seat, stm, lists);
+    let mut flight = Flight::begin(seat, stm, lists);
     let outcome = run_to_end(seat, stm, bell, hooks, &mut flight, body);
     flight.stands();
     (outcome, lists_of(flight.into_running()))
 }
 
 // The body runs, and the attempt goes on until it is over.
+#[inline(always)]
 fn run_to_end<L: Law, R: Bell, H: Hooks, B: Body<L>>(
     seat: &mut Seat<L>,
     stm: &Stm<L>,
@@ -90,6 +90,7 @@ fn run_to_end<L: Law, R: Bell, H: Hooks, B: Body<L>>(
 }
 
 // The ending as an outcome, with what the body answered.
+#[inline(always)]
 fn outcome_of<T: Drop>(ending: Ending, out: Option<T>) -> Outcome<T>
     requires { MayEnd ending out }
     ensures { IsOutcome ending out result }
@@ -103,12 +104,14 @@ fn outcome_of<T: Drop>(ending: Ending, out: Option<T>) -> Outcome<T>
 }
 
 // The lists of an attempt that is over.
+#[inline(always)]
 fn lists_of(running: Running) -> Lists
     ensures { result.reads ≡ running.footprint.reads }
 {
+    let footprint = running.footprint;
     Lists {
-        reads: running.footprint.reads,
-        writes: running.footprint.writes,
+        reads: footprint.reads,
+        writes: footprint.writes,
         handlers: running.handlers,
         levels: running.levels,
     }
