@@ -27,7 +27,7 @@ pub fn run<R: Threads + Sync>(rt: &R, alloc: Global, task: &Task) -> Result<Repo
         Err(MakeFault::BadLayout) => unreachable!(),
     };
     let mut workers = hire(alloc, &stm, &mut maker, task)?;
-    work_all(rt, alloc, &stm, workers.as_mut_slice());
+    work_all(rt, &stm, workers.as_mut_slice());
     let work = dismiss(&stm, &mut maker, workers);
     if let Some(fault) = work.stopped {
         return Err(fault);
@@ -82,7 +82,7 @@ fn hire(
     Ok(workers)
 }
 
-fn work_all<R: Threads + Sync>(rt: &R, alloc: Global, stm: &Stm<Free>, workers: &mut [Worker])
+fn work_all<R: Threads + Sync>(rt: &R, stm: &Stm<Free>, workers: &mut [Worker])
     requires some { 0 < length workers.old }
     requires ready { All (IsReady stm.now) workers.old }
     ensures { All (IsReady stm.now) workers.new }
@@ -95,7 +95,7 @@ fn work_all<R: Threads + Sync>(rt: &R, alloc: Global, stm: &Stm<Free>, workers: 
         &|_, worker: &mut Worker|
             requires { IsReady stm.now worker.old }
             ensures { IsReady stm.entry.now worker.new }
-        { worker.work(alloc, stm) },
+        { worker.work(stm) },
     );
 }
 

@@ -7,7 +7,6 @@ ghost use Rattle.bank.specs.Ready.{IsReady};
 use crate::report::Fault;
 use bank_loads::{Script, Scripts};
 use ref_table::{Seat, Stm};
-use std::alloc::Global;
 use std::thread::yield_now;
 use stm_model::{Body, Cause, Free, Quiet};
 use txn_run::{Caller, Outcome, attempt};
@@ -61,39 +60,34 @@ impl Worker {
     }
 
     /// Runs its scripts, one after another.
-    pub fn work(&mut self, alloc: Global, stm: &Stm<Free>)
+    pub fn work(&mut self, stm: &Stm<Free>)
         requires { IsReady stm.now self.old }
         ensures { IsReady stm.now self.new }
     {
         while self.scripts.number < self.scripts.task.scripts {
             let script = self.scripts.next_script();
-            if let Err(cause) = self.run(alloc, stm, script) {
+            if let Err(cause) = self.run(stm, script) {
                 self.stopped = Some(cause);
                 return;
             }
         }
     }
 
-    fn run(&mut self, alloc: Global, stm: &Stm<Free>, script: Script) -> Result<(), Cause>
+    fn run(&mut self, stm: &Stm<Free>, script: Script) -> Result<(), Cause>
         requires ready { IsReady stm.now self.old }
         requires fits { FitsIn (length stm.now.opening) script }
         ensures ready { IsReady stm.now self.new }
         ensures scripts { self.new.scripts ≡ self.old.scripts }
     {
         match script {
-            Script::Transfer(transfer) => self.settle(alloc, stm, &transfer),
-            Script::Tally(tally) => self.settle(alloc, stm, &tally),
-            Script::Count(count) => self.settle(alloc, stm, &count),
+            Script::Transfer(transfer) => self.settle(stm, &transfer),
+            Script::Tally(tally) => self.settle(stm, &tally),
+            Script::Count(count) => self.settle(stm, &count),
         }
     }
 
     // Tries until the attempt isn't rolled back for what others do, as often as the table lets it.
-    fn settle<B: Body<Free> + Copy>(
-        &mut self,
-        alloc: Global,
-        stm: &Stm<Free>,
-        script: &B,
-    ) -> Result<(), Cause>
+    fn settle<B: Body<Free> + Copy>(&mut self, stm: &Stm<Free>, script: &B) -> Result<(), Cause>
         requires ready { IsReady stm.now self.old }
         requires fits { B.fits script.now stm.now.law (length stm.now.opening) }
         ensures ready { IsReady stm.now self.new }
@@ -107,7 +101,7 @@ impl Worker {
                 stm,
                 bell: &mut self.bell,
             };
-            let outcome = attempt(alloc, &mut caller, &mut body, &mut Quiet);
+            let outcome = attempt(&mut caller, &mut body, &mut Quiet);
             self.attempts = self.attempts.saturating_add(1);
             match outcome {
                 Outcome::Committed { .. } | Outcome::Read { .. } => return Ok(()),
