@@ -6,7 +6,8 @@ use Rattle.stm_model.specs.CellsState.{Book, CellsState}
 use Rattle.stm_model.specs.Owes.{IsPossible}
 use Rattle.stm_model.specs.Ran.{Ran, Running}
 use Rattle.stm_model.specs.Heap.{over}
-use Rattle.stm_model.specs.Telling.{Cut, Leads, Owing, Writing}
+use Rattle.stm_model.specs.Telling.{Cut, Extends, Leads, Learned, Owing, Writing}
+use Rattle.stm_model.proofs.CellsLemmas.{IsPossible-before}
 use Rattle.stm_model.proofs.RanLemmas.{Ran-wrote}
 use Rattle.ref_views.specs.Typed.{Held, Holds}
 
@@ -73,3 +74,8 @@ pub calls_there : {F T Z : Type 0} (step : T → Z → Type 0) (value_of : ℕ �
     → (left ≡ f) ⊎ ((former : T) × (made : Z) × step former made × Holds value_of address former (over heap s.now.writes))
 calls_there step value_of lawful address s t f left heap possible (inl same) = inl same
 calls_there step value_of lawful address s t f left heap possible (inr called) = inr (called.0, called.1, called.2, called.3 heap possible)
+
+-- what was learned is so in each heap that is still possible later
+pub learned_there : (lawful : List ℕ → Type 0) (fact : List ℕ → Type 0) (s t u : CellsState) (heap : List ℕ)
+    → Learned lawful fact s t → Extends t.reads u.reads → IsPossible lawful s.size u.reads heap → fact (over heap s.now.writes)
+learned_there lawful fact s t u heap learned more possible = learned.each heap (IsPossible-before lawful s.size t.reads u.reads heap more possible)

@@ -1,2 +1,3 @@
+pub mod Operating
 pub mod Typed
 pub mod Using

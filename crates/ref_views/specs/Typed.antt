@@ -30,6 +30,11 @@ pub record IsCellOf {T : Type 0} (value_of : ℕ → Option T) (lawful : List �
   pub within : address < size
   pub holds : (heap : List ℕ) → length heap ≡ size → AreWords heap → lawful heap → IsTrue (is_word_of value_of (slice_index heap address))
 
+-- The cell holds this value in some lawful heap of so many cells.
+abbrev pub CanHold : {T : Type 0} → (ℕ → Option T) → (List ℕ → Type 0) → (size address : ℕ) → T → Type 0
+CanHold value_of lawful size address value =
+    ∥ ((heap : List ℕ) × (length heap ≡ size) × AreWords heap × lawful heap × Holds value_of address value heap) ∥₁
+
 -- ---- at a moment of cells
 
 -- There is this cell. While no cause was answered, it holds such a word in each heap that is possible by the notes, under the writes.

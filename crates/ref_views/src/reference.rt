@@ -6,10 +6,11 @@ ghost use Rattle.stm_model.specs.Telling.{Leads, Reading, Stopping, Writing};
 ghost use Rattle.ref_views.specs.Typed.{Held, Holds, HoldsWordOf, KeepsAllWords, KeepsWords, MayHold, Puts, Replaces};
 ghost use Rattle.ref_views.specs.Using.{RefusesUse, Uses};
 
+use crate::View;
 use std::marker::PhantomData;
 use stm_model::{Addr, Cause, Cells, Law, WordValue};
 
-/// A reference to a cell that holds values of a type, as a `Ref` of ScalaSTM. All its calls are for use
+/// A reference to a cell that holds values of a type, as a `Ref` of ScalaSTM. Its calls on cells are for use
 /// within a block. An `Err` is a cause that the cells answered.
 #[derive(Clone, Copy)]
 pub struct Ref<T> {
@@ -25,6 +26,13 @@ impl<T: WordValue> Ref<T> {
             addr,
             of: PhantomData,
         }
+    }
+
+    /// The cell for single operations: `single` of ScalaSTM.
+    pub fn single(self) -> View<T>
+        ensures { result.cell ≡ self }
+    {
+        View { cell: self }
     }
 
     pub fn get<L: Law, C: Cells<L>>(&self, cells: &mut C) -> Result<T, Cause>

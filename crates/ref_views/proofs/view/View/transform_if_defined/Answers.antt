@@ -1,0 +1,19 @@
+use Rattle.std.proofs.Common.{◌≡◌, ap, refl, sym, Bool, true, false, Option, None, Some}
+use Rattle.ref_views.specs.Operating.{called_on, transforms_if_defined}
+use Rattle.ref_views.proofs.Attempted.{kept, operates}
+use Rattle.ref_views.proofs.view.View.transform_if_defined.Goals as goal
+
+defined_called : {F T : Type 0} (step : F → T → Option T → F → Type 0) (f left : F) (former : T) (is_defined : Bool) (written : Option T)
+    → transforms_if_defined step f left former is_defined written → called_on step f left (Some former)
+defined_called step f left former true written does = (Some does.0, does.1)
+defined_called step f left former false written does = (None, does.0)
+
+pub returns-clause-operates : goal.returns-clause-operates
+returns-clause-operates g c =
+    let f = c.args.f.now in
+    let left = c.attempt.new.body.f.now in
+    let same = c.f-1.given.1 (kept _ _ _ _ (λ b. c.body-2-1.given ≡ b.f.ghost_name) (λ heap out after b means. sym means.1) (λ heap lost. sym lost.1) refl
+    c.args.caller.now.stm.now _ _ _ c.attempt.ensures.concludes) in
+    rw same (operates g.T.WordValue.word_of g.T.WordValue.value_of c.args.self.now.cell.addr.0 (transforms_if_defined (λ f former value left. goal.F-step g f former value left) f left) (called_on (λ f former value left. goal.F-step g f former value left) f left) _ _ _ _
+    (λ heap out after means. means.2) (λ heap cause after means. means.2) (λ heap lost. lost.2) (defined_called (λ f former value left. goal.F-step g f former value left) f left) (λ is. ap (λ b. b.f.now) is)
+    c.args.caller.now.stm.now _ _ _ c.attempt.ensures.concludes)
