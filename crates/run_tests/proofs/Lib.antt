@@ -1,0 +1,2 @@
+mod Deposits
+mod Pending
