@@ -1,6 +1,8 @@
+pub mod Answered
 pub mod Answering
 pub mod Awaiting
 pub mod Calling
+pub mod Called
 pub mod Concluding
 pub mod Ending
 pub mod Entries
@@ -14,7 +16,9 @@ pub mod Possible
 pub mod Reaching
 pub mod Reading
 pub mod Refused
+pub mod Resting
 pub mod Standing
 pub mod Turned
 pub mod Turning
+pub mod Underway
 pub mod Writing

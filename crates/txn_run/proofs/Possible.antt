@@ -27,7 +27,7 @@ module _ (lawful : List ℕ → Type 0) (may : List ℕ → List ℕ → Type 0)
   abbrev heap_at : ℕ → List ℕ
   heap_at n = state terms.opening seat.seen n
 
-  possible_at : (n : ℕ) (notes : List Note) → n ≤ length seat.seen → Agrees notes (heap_at n) → IsPossible lawful (cells_in terms) notes (heap_at n)
+  pub possible_at : (n : ℕ) (notes : List Note) → n ≤ length seat.seen → Agrees notes (heap_at n) → IsPossible lawful (cells_in terms) notes (heap_at n)
   possible_at n notes low agrees = record {
     cells = length-state terms.opening seat.seen n;
     words = AreWords-state terms.opening seat.seen n safe.seen.legal.opening_words safe.seen.legal.entries;

@@ -18,7 +18,7 @@ use Rattle.txn_drive.specs.Going.{IsAsked}
 use Rattle.stm_model.specs.Handlers.{Handlers}
 use Rattle.txn_drive.specs.Moment.{Moment, moment}
 use Rattle.txn_drive.specs.Standing.{IsOn, IsOver, Rests}
-use Rattle.txn_run.specs.Flights.{FlightState, IsHere, IsOfBodies, MayBeAsked, Stands, Tells, Went, cells_in_stm, state_on, told_at}
+use Rattle.txn_run.specs.Flights.{FlightState, IsHere, IsOfBodies, Knows, MayBeAsked, Stands, Tells, Went, cells_in_stm, state_on, told_at}
 use Rattle.txn_run.proofs.Calling.{AskEnds, ask_ends}
 use Rattle.txn_run.proofs.Finishing.{FinishEnds, abandon_ends, concluded, finish_ends, late, rolled_back}
 use Rattle.txn_run.proofs.Known.{witness_here, words_here}
@@ -126,13 +126,6 @@ module _ {S : Type 0} (lawful : List ℕ → Type 0) (may : List ℕ → List �
 
     pub asked_turn : u.turn ≡ t.turn
     asked_turn = ends.turn
-
--- what a body may rely on there
-pub record Knows (lawful : List ℕ → Type 0) (size : ℕ) (t : Attempt) : Type 0 where
-  pub witness : Witness lawful size t.notes
-  pub words : AreWords (values_of t.now.writes)
-  pub answered : IfSome (cause_at t.stage) IsOfCells
-  pub deep : length t.saved ≤ deepest
 
 pub knows_here : (lawful : List ℕ → Type 0) (may : List ℕ → List ℕ → Type 0) (terms : Terms) (seat : SeatState) (t : Attempt) → t.stage ≢ Ended → Stands lawful may terms seat t → Knows lawful (cells_in terms) t
 knows_here lawful may terms seat t going stands = record {

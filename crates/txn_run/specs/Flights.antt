@@ -8,7 +8,9 @@ use Rattle.stm_model.specs.CellsState.{CellsState, empty_book, hooked, kept, lat
 use Rattle.stm_model.specs.Moves.{AwaitsAsk, MayAsk}
 use Rattle.stm_model.specs.Owes.{Owes}
 use Rattle.stm_model.specs.Refusing.{IsOfCells, RefusesLevel, RefusesRead, RefusesRegistration, RefusesWrite, deepest}
-use Rattle.stm_model.specs.Telling.{Does, Enters, Got, Refused}
+use Rattle.stm_model.specs.Telling.{Does, Enters, Got, Refused, Witness}
+use Rattle.stm_model.specs.Heap.{AreWords}
+use Rattle.std.specs.Map.{values_of}
 use Rattle.stm_model.specs.World.{Terms, cells_in}
 use Rattle.stm_model.specs.declared.access.Ask.{Ask}
 use Rattle.stm_model.specs.declared.access.Ask.TheVariants.{Abandon, Enter, Finish, Get, Hook, Keep, Later, Set, Undo}
@@ -42,6 +44,13 @@ pub record Stands (lawful : List ℕ → Type 0) (may : List ℕ → List ℕ �
   pub rests : Rests t
   pub refused : IfSome (cause_at t.stage) IsOfCells
   pub deep : t.stage ≢ Ended → length t.saved ≤ deepest
+
+-- What a body may rely on there.
+pub record Knows (lawful : List ℕ → Type 0) (size : ℕ) (t : Attempt) : Type 0 where
+  pub witness : Witness lawful size t.notes
+  pub words : AreWords (values_of t.now.writes)
+  pub answered : IfSome (cause_at t.stage) IsOfCells
+  pub deep : length t.saved ≤ deepest
 
 -- Its body has still to run: it waits to be asked, and nothing is read, written or registered.
 pub record IsFresh (t : Attempt) : Type 0 where

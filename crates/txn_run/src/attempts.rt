@@ -76,14 +76,14 @@ pub fn attempt_noting<L: Law, R: Bell, B: Body<L>, H: Hooks>(
 
 // Whether all attempts that there may be were made.
 #[inline(always)]
-fn is_spent<L: Law>(seat: &Seat<L>, stm: &Stm<L>) -> bool
+pub fn is_spent<L: Law>(seat: &Seat<L>, stm: &Stm<L>) -> bool
     ensures { IsTrue result ↔ (stm.now.settings.attempts ≤ (attempt_in seat.now).serial) }
 {
     seat.serial() >= stm.settings().attempts
 }
 
 // No attempt is made any more.
-fn spent<L, T>(seat: &Seat<L>) -> Outcome<T>
+pub fn spent<L, T>(seat: &Seat<L>) -> Outcome<T>
     ensures { result ≡ with.Rolled (AttemptsEnd (attempt_in seat.now).serial) seat.now.view.clock }
 {
     Outcome::Rolled {

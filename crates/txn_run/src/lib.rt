@@ -4,13 +4,17 @@
 mod attempts;
 mod bodies;
 mod callers;
+mod closures;
 mod cells;
 mod flights;
 mod making;
+mod runners;
 mod to_end;
 
 pub use attempts::{attempt, attempt_noting};
 pub use callers::{Caller, Outcome};
+pub use closures::{Runs, attempt_with};
+pub use runners::Runner;
 pub use cells::Txn;
 pub use read_set::ReadSet;
 pub use ref_table::{Maker, Mark, Seat, Stm};

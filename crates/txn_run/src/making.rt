@@ -91,7 +91,7 @@ fn run_to_end<L: Law, R: Bell, H: Hooks, B: Body<L>>(
 
 // The ending as an outcome, with what the body answered.
 #[inline(always)]
-fn outcome_of<T: Drop>(ending: Ending, out: Option<T>) -> Outcome<T>
+pub fn outcome_of<T: Drop>(ending: Ending, out: Option<T>) -> Outcome<T>
     requires { MayEnd ending out }
     ensures { IsOutcome ending out result }
 {
@@ -105,7 +105,7 @@ fn outcome_of<T: Drop>(ending: Ending, out: Option<T>) -> Outcome<T>
 
 // The lists of an attempt that is over.
 #[inline(always)]
-fn lists_of(running: Running) -> Lists
+pub fn lists_of(running: Running) -> Lists
     ensures { result.reads ≡ running.footprint.reads }
 {
     let footprint = running.footprint;
