@@ -10,21 +10,30 @@ use Rattle.stm_model.specs.Owes.{IsPossible}
 use Rattle.stm_model.specs.Refusing.{IsOfBody, IsOfCells}
 use Rattle.stm_model.specs.Telling.{Owing}
 use Rattle.stm_model.specs.World.{Terms, cells_in}
-use Rattle.stm_model.specs.declared.access.Ask.TheVariants.{Abandon, Finish}
+use Rattle.stm_model.specs.declared.access.Ask.TheVariants.{Abandon}
 use Rattle.stm_model.specs.declared.cause.Cause.{Cause}
 use Rattle.txn_drive.specs.Going.{IsAsked}
 use Rattle.txn_drive.specs.Standing.{IsOver, Rests}
 use Rattle.txn_run.specs.Flights.{MayBeAsked, Stands}
 use Rattle.txn_run.specs.Outcomes.{IsWord}
 use Rattle.txn_run.specs.Runners.{MayEndWith, StandsOn}
-use Rattle.txn_run.specs.Turns.{ComesToEnd}
+use Rattle.stm_model.specs.Whole.{RunLate}
+use Rattle.txn_run.specs.Turns.{ComesToEnd, GaveLate, IsSince, LeftLate}
 use Rattle.txn_run.specs.Turns as comes
-use Rattle.txn_run.proofs.Finishing.{AbandonEnds, FinishEnds, abandon_ends, concluded, finish_ends, late, rolled_back}
+use Rattle.txn_run.proofs.Finishing.{AbandonEnds, abandon_ends}
+use Rattle.txn_run.proofs.Reaching.{comes_map}
 use Rattle.txn_run.proofs.Known.{active_here}
-use Rattle.txn_run.proofs.Looping.{may_finish}
 use Rattle.txn_run.proofs.Standing.{rests_waits}
 use Rattle.txn_run.proofs.Turned.{may_abandon}
 use Rattle.txn_run.proofs.Turning.{end_cause, refused_word}
+
+-- a before-commit body that does nothing
+abbrev pub does_nothing : {B : Type 0} → B → ℕ → List ℕ → Book → Result (Unit {0}) Cause → Book → B → Type 0
+does_nothing body token heap before answer after left = (answer ≡ Ok tt) × (after ≡ before)
+
+nothing_done : {B : Type 0} (heap : List ℕ) (tokens : List ℕ) (body left : B) (before after : Book) → RunLate (does_nothing {B = B}) heap tokens body before after left → after ≡ before
+nothing_done heap [] body left before after ran = ran.0
+nothing_done heap (token ∷ tokens) body left before after ran = nothing_done heap tokens ran.1 left ran.0 after ran.3 ∙ ran.2.1
 
 module _ {T : Type 0} (lawful : List ℕ → Type 0) (may : List ℕ → List ℕ → Type 0) (terms : Terms) (seat : SeatState) (t u : Attempt) (answer : Result T Cause)
     (stands : Stands lawful may terms seat t) (able : MayEndWith lawful may (cells_in terms) t answer) where
@@ -41,32 +50,19 @@ module _ {T : Type 0} (lawful : List ℕ → Type 0) (may : List ℕ → List �
   -- ---- it answered well
 
   module _ (out : T) (is : answer ≡ Ok out) where
-    pub may_end_well : MayBeAsked lawful may terms t Finish
-    may_end_well = may_finish lawful may terms t stands.rests able.going able.first (subst (λ (a : Result T Cause). IfOk a (λ out. Owing lawful may (cells_of (cells_in terms) t))) is able.owes)
+    pub owes_well : Owing lawful may (cells_of (cells_in terms) t)
+    owes_well = subst (λ (a : Result T Cause). IfOk a (λ out. Owing lawful may (cells_of (cells_in terms) t))) is able.owes
 
-    module _ (asked : IsAsked t Finish u) (rests : Rests u) where
-      ends : FinishEnds t u
-      ends = finish_ends t u waits asked rests
-
-      none_left : (token : ℕ) (tokens : List ℕ) → cause_at t.stage ≡ None → drop t.turn t.now.laters ≡ token ∷ tokens → ⊥
-      none_left token tokens going left =
-          let none : drop t.turn t.now.laters ≡ [] = ap (λ (n : ℕ). drop n t.now.laters) able.first ∙ able.none_later going in absurd (cc (sym none ∙ left))
-
-      pub over_well : IsOver u
-      over_well = elim ends [
-        | late token tokens going left here ↦ absurd (none_left token tokens going left)
-        | concluded going none led over ↦ over
-        | rolled_back cause was led over ↦ over
-      ]
-
-      pub comes_well : (gives : Cause → List ℕ → Book → Type 0)
-          → ComesToEnd lawful (cells_in terms) (λ heap book. (answer ≡ Ok out) × StandsOn lawful (cells_of (cells_in terms) t) heap book) gives (λ heap. IsPossible lawful (cells_in terms) t.notes heap) u
-      comes_well gives = elim ends [
-        | late token tokens going left here ↦ absurd (none_left token tokens going left)
-        | concluded going none led over ↦ comes.concluded t waits active led (λ heap possible. ((is, stood heap going possible), possible))
-        | rolled_back cause was led over ↦ comes.rolled_back t cause waits active (inl (subst (λ (c : Option Cause). IfSome c IsOfCells) was stands.refused)) led (λ heap possible. possible)
-            (λ word. absurd (refused_word t cause stands.refused was word))
-      ]
+    -- What was registered to run before the commit did nothing.
+    pub comes_well : {B : Type 0} (late_leaves : B → ℕ → List ℕ → Book → B → Type 0) (body left : B)
+        → ComesToEnd lawful (cells_in terms) (λ heap book. IsSince (cause_at t.stage ≡ None) lawful (cells_in terms) t.notes heap × RunLate (does_nothing {B = B}) heap book.laters body t.now book left)
+          (λ cause heap book. IsSince (cause_at t.stage ≡ None) lawful (cells_in terms) t.notes heap × GaveLate (does_nothing {B = B}) heap cause body t.now book left)
+          (λ heap. IsPossible lawful (cells_in terms) t.notes heap × LeftLate (cause_at t.stage ≡ None) (does_nothing {B = B}) late_leaves heap body t.now left) u
+        → ComesToEnd lawful (cells_in terms) (λ heap book. (answer ≡ Ok out) × StandsOn lawful (cells_of (cells_in terms) t) heap book)
+          (λ cause heap book. (answer ≡ Err cause) × StandsOn lawful (cells_of (cells_in terms) t) heap book) (λ heap. IsPossible lawful (cells_in terms) t.notes heap) u
+    comes_well {B} late_leaves body left comes = comes_map lawful (cells_in terms) _ _ _ _ _ _ u
+        (λ heap book ran. (is, record { going = ran.0.going; possible = ran.0.possible; has = sym (nothing_done heap book.laters body left t.now book ran.1) }))
+        (λ cause heap book gave. absurd (cc gave.1.gave.0)) (λ heap left. left.0) comes
 
   -- ---- it answered a cause
 

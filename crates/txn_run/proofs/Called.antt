@@ -3,13 +3,13 @@ use Rattle.std.proofs.Common.{◌≡◌, ℕ, ◌⊎◌, List, [], Some, None, R
 use Rattle.std.specs.Prelude.{IfErr, IfOk}
 use Rattle.stm_model.specs.CellsState.{Book, CellsState}
 use Rattle.stm_model.specs.Owes.{IsPossible, Owes}
-use Rattle.stm_model.specs.Refusing.{IsOfBody}
-use Rattle.stm_model.specs.Telling.{Leads, Owing}
+use Rattle.stm_model.specs.Ran.{Running}
+use Rattle.stm_model.specs.Telling.{Owing}
 use Rattle.stm_model.specs.declared.cause.Cause.{Cause}
 use Rattle.ref_table.specs.Seats.{StmState}
 use Rattle.txn_run.specs.Callers.{CallerState}
 use Rattle.txn_run.specs.Outcomes.{Concludes, ConcludesAs, Made}
-use Rattle.txn_run.specs.Runners.{HasRun, RunsAsBody, StandsOn, WasCalled, fresh_cells}
+use Rattle.txn_run.specs.Runners.{HasRun, StandsOn, WasCalled, fresh_cells}
 use Rattle.txn_run.specs.declared.callers.Outcome.{Outcome}
 use Rattle.txn_run.specs.declared.callers.Outcome.TheVariants as with
 
@@ -59,13 +59,13 @@ ok_under C P (Err cause) holds = tt
 
 -- A closure ran as a body does on cells.
 module _ {D T L : Type 0} (law : D → L) (follows : D → D → Type 0) (state : D → CellsState) (lawful : L → List ℕ → Type 0) (may : L → List ℕ → List ℕ → Type 0)
-    (start end : D) (answer : Result T Cause) (runs : Leads law follows state start end (RunsAsBody (lawful (law start)) (may (law start)) answer)) where
+    (start end : D) (answer : Result T Cause) (runs : Running lawful may law follows state start end (λ heap book answer after. Unit {0}) (λ heap book. Unit {0}) answer) where
   abbrev Met : L → Type 0
   Met l = Owes (lawful l) (may l) (state end).size (state end).reads (state end).now.writes
 
   pub owes_then : IfOk answer (λ out. Owing (lawful (law end)) (may (law end)) (state end))
   owes_then = ok_under ((state end).cause ≡ None) (Met (law end)) answer
-      (λ going. subst (λ (l : L). IfOk answer (λ out. Met l)) (sym runs.same_law) (runs.states.ran.owes going))
+      (λ going. subst (λ (l : L). IfOk answer (λ out. Met l)) (sym runs.same_law) (runs.states.owes going))
 
 -- It was called on the cells of an attempt that had just begun.
 module _ {D T L : Type 0} (law : D → L) (state : D → CellsState) (lawful : L → List ℕ → Type 0) (begins : D → Type 0) (called : D → Result T Cause → D → Type 0)

@@ -10,10 +10,9 @@ use Rattle.stm_model.specs.declared.cause.Cause.{Cause}
 use Rattle.stm_model.specs.declared.cause.Cause.TheVariants.{Memory}
 use Rattle.txn_run.specs.Callers.{MayBegin}
 use Rattle.txn_run.specs.Flights.{FlightState, IsHere, IsOfBodies, Knows, Tells, cells_in_stm}
-use Rattle.txn_run.specs.Runners.{fresh_cells, resting}
+use Rattle.txn_run.specs.Runners.{fresh_cells, resting, state_by}
 use Rattle.stm_model.specs.Attempt.{Attempt, Ended, Ready, Stage, cause_at, cells_of}
 use Rattle.stm_model.specs.World.{Terms, cells_in}
-use Rattle.stm_model.specs.declared.note.Note.{Note}
 use Rattle.stm_model.specs.declared.settings.Settings.{Settings}
 use Rattle.txn_drive.specs.Begun.{IsBegun}
 use Rattle.txn_run.proofs.Standing.{begun_stands, knows_here}
@@ -54,10 +53,15 @@ here_placed stm seat flight is =
 pub rest_witness : {S : Type 0} (lawful : List ℕ → Type 0) (may : List ℕ → List ℕ → Type 0) (stm : StmState S) (seat : SeatState) → MayBegin lawful may stm seat → Witness lawful (cells_in_stm stm) []
 rest_witness lawful may stm seat able = (_, possible_at lawful may (terms_in stm) seat able.safe 0 [] (omega arith) (All-nil _))
 
+same_size : {S : Type 0} (stm : StmState S) (under_way : Option (FlightState S)) → (state_by stm under_way).size ≡ cells_in_stm stm
+same_size stm None = refl
+same_size stm (Some flight) = refl
+
 -- What is possible by some notes is possible by none.
-pub less_witness : (lawful : List ℕ → Type 0) (size : ℕ) (reads : List Note) → Witness lawful size reads → Witness lawful size []
-less_witness lawful size reads witness =
-    (witness.0, record { cells = witness.1.cells; words = witness.1.words; keeps_law = witness.1.keeps_law; agrees = All-nil _ })
+pub less_witness : {S : Type 0} (lawful : List ℕ → Type 0) (stm : StmState S) (under_way : Option (FlightState S))
+    → Witness lawful (state_by stm under_way).size (state_by stm under_way).reads → Witness lawful (cells_in_stm stm) []
+less_witness lawful stm under_way witness =
+    (witness.0, record { cells = witness.1.cells ∙ same_size stm under_way; words = witness.1.words; keeps_law = witness.1.keeps_law; agrees = All-nil _ })
 
 -- ---- an attempt that has just begun
 

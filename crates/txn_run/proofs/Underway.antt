@@ -24,11 +24,10 @@ pub may_end_with : {S T : Type 0} (lawful : List ℕ → Type 0) (may : List ℕ
     (before seat : SeatState) (rings rings_then : Option (List ℕ)) (under_way : Option (FlightState S)) (flight : FlightState S) (answer : Result T Cause)
     → under_way ≡ Some flight → IsGoing under_way → BegunBy lawful_first may_first first_stm before rings seat under_way rings_then
     → IfOk answer (λ out. Owing lawful may (state_by stm under_way)) → IfErr answer (λ cause. IsOfBody cause ⊎ ((state_by stm under_way).cause ≡ Some cause))
-    → ((state_by stm under_way).cause ≡ None → (state_by stm under_way).now.laters ≡ []) → MayEndWith lawful may (cells_in_stm stm) flight.attempt answer
-may_end_with lawful may stm first_stm lawful_first may_first before seat rings rings_then under_way flight answer is going begun owes answers none_later = record {
+    → MayEndWith lawful may (cells_in_stm stm) flight.attempt answer
+may_end_with lawful may stm first_stm lawful_first may_first before seat rings rings_then under_way flight answer is going begun owes answers = record {
   going = subst IsGoing is going;
   first = (subst (λ f. BegunBy lawful_first may_first first_stm before rings seat f rings_then) is begun).turn;
-  none_later = subst (λ f. (state_by stm f).cause ≡ None → (state_by stm f).now.laters ≡ []) is none_later;
   owes = subst (λ f. IfOk answer (λ out. Owing lawful may (state_by stm f))) is owes;
   answers = subst (λ f. IfErr answer (λ cause. IsOfBody cause ⊎ ((state_by stm f).cause ≡ Some cause))) is answers;
 }

@@ -7,7 +7,6 @@ use Rattle.stm_model.specs.Attempt.{Attempt, Ended, cause_at, cells_of}
 use Rattle.stm_model.specs.CellsState.{Book, CellsState, empty_book}
 use Rattle.stm_model.specs.Heap.{AreWords}
 use Rattle.stm_model.specs.Owes.{IsPossible}
-use Rattle.stm_model.specs.Ran.{Ran}
 use Rattle.stm_model.specs.Refusing.{IsOfBody}
 use Rattle.stm_model.specs.Telling.{Owing}
 use Rattle.stm_model.specs.declared.cause.Cause.{Cause}
@@ -64,11 +63,6 @@ BegunBy lawful may stm before rings after (Some flight) rings_then = BegunFrom l
 
 -- ---- closures
 
--- What a call of a closure does on cells, by its answer: all that a body does there but for saying what it is, and no before-commit body is registered.
-pub record RunsAsBody {T : Type 0} (lawful : List ℕ → Type 0) (may : List ℕ → List ℕ → Type 0) (answer : Result T Cause) (before after : CellsState) : Type 0 where
-  pub ran : Ran lawful may (λ heap book answer after. Unit {0}) (λ heap book. Unit {0}) answer before after
-  pub none_later : after.cause ≡ None → after.now.laters ≡ []
-
 -- Cells at the end of a call stand so on a heap that is possible by what they read.
 pub record StandsOn (lawful : List ℕ → Type 0) (cells : CellsState) (heap : List ℕ) (book : Book) : Type 0 where
   pub going : cells.cause ≡ None
@@ -102,11 +96,10 @@ pub record WasCalled {D T : Type 0} (begins : D → Type 0) (called : D → Resu
 
 -- ---- the end of an attempt
 
--- The attempt may end with this answer of a closure: it waits to be asked, no before-commit body had its turn or is registered, and it meets what is owed.
+-- The attempt may end with this answer of a closure: it waits to be asked, no before-commit body had its turn, and it meets what is owed.
 pub record MayEndWith {T : Type 0} (lawful : List ℕ → Type 0) (may : List ℕ → List ℕ → Type 0) (size : ℕ) (t : Attempt) (answer : Result T Cause) : Type 0 where
   pub going : t.stage ≢ Ended
   pub first : t.turn ≡ 0
-  pub none_later : cause_at t.stage ≡ None → t.now.laters ≡ []
   pub owes : IfOk answer (λ out. Owing lawful may (cells_of size t))
   pub answers : IfErr answer (λ cause. IsOfBody cause ⊎ (cause_at t.stage ≡ Some cause))
 

@@ -3,12 +3,13 @@ ghost use Rattle.std.specs.Prelude.{◌≡◌, ◌⊎◌, ℕ, [], IfErr, IfOk, 
 ghost use Rattle.std.specs.Fn.{CalledAtMut};
 ghost use Rattle.ref_table.specs.Seats.{StmState};
 ghost use Rattle.stm_model.specs.Owes.{IsPossible};
+ghost use Rattle.stm_model.specs.Ran.{Running};
 ghost use Rattle.stm_model.specs.Refusing.{IsOfBody};
-ghost use Rattle.stm_model.specs.Telling.{Leads, Owing};
+ghost use Rattle.stm_model.specs.Telling.{Owing};
 ghost use Rattle.stm_model.specs.declared.cause.Cause.{Cause};
 ghost use Rattle.txn_run.specs.Callers.{CallerState};
 ghost use Rattle.txn_run.specs.Outcomes.{Concludes, ConcludesAs, IsSpent, Made};
-ghost use Rattle.txn_run.specs.Runners.{HasRun, RunsAsBody, StandsOn, WasCalled, fresh_cells};
+ghost use Rattle.txn_run.specs.Runners.{HasRun, StandsOn, WasCalled, fresh_cells};
 
 use crate::callers::Outcome;
 use stm_model::{Cause, Cells, Law};
@@ -40,7 +41,6 @@ pub trait Runs<L: Law>: Cells<L> {
         requires begun { (first : Self) × begun first self.old }
         requires owes { IfOk answer (λ _. Owing (L.lawful (Self.law self.old)) (L.may (Self.law self.old)) (Self.state self.old)) }
         requires answers { IfErr answer (λ cause. IsOfBody cause ⊎ ((Self.state self.old).cause ≡ Some cause)) }
-        requires none_later { (Self.state self.old).cause ≡ None → (Self.state self.old).now.laters ≡ [] }
         ensures rests { rests self.new }
         ensures same { (first : Self) → begun first self.old → same first self.new }
         ensures made { (first : Self) → begun first self.old → Made (stm first).settings.attempts (caller first) (caller self.new) }
@@ -56,8 +56,8 @@ pub trait Runs<L: Law>: Cells<L> {
 }
 
 /// Makes one attempt to run the closure as one step, as `attempt` does with a body. The closure is called once on
-/// the cells of that attempt, unless as many attempts were made as there may be. It registers no before-commit
-/// bodies, and handlers that it registers are told to nobody.
+/// the cells of that attempt, unless as many attempts were made as there may be. Handlers and before-commit bodies
+/// that it registers do nothing.
 pub fn attempt_with<L: Law, D: Runs<L>, T: Drop, F: FnMut(&mut D) -> Result<T, Cause>>(
     runner: &mut D,
     f: &mut F,
@@ -65,7 +65,7 @@ pub fn attempt_with<L: Law, D: Runs<L>, T: Drop, F: FnMut(&mut D) -> Result<T, C
     requires rests { D.rests runner.old }
     requires callable { (start : _) → D.begun runner.old start.now → D.state start.now ≡ fresh_cells (D.state start.now).size → F.pre f.old start }
     requires runs { (start end : D) (answer : Result T Cause) (left : F) → D.begun runner.old start → CalledAtMut F.FnMut f.old start answer left end
-        → Leads D.law D.follows D.state start end (RunsAsBody (L.lawful (D.law start)) (L.may (D.law start)) answer) }
+        → Running L.lawful L.may D.law D.follows D.state start end (λ heap before answer after. Unit {0}) (λ heap before. Unit {0}) answer }
     ensures rests { D.rests runner.new }
     ensures same { D.same runner.old runner.new }
     ensures concludes { Concludes (λ out heap book. HasRun (D.begun runner.old) (λ start answer end. CalledAtMut F.FnMut f.old start answer f.new end) D.state (L.lawful (D.stm runner.old).law) (Ok out) heap book)

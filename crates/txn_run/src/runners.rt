@@ -26,20 +26,21 @@ use crate::closures::Runs;
 use crate::flights::Flight;
 use crate::making::{lists_of, outcome_of};
 use ref_table::{Seat, Stm};
-use stm_model::{Addr, Bell, Cause, Cells, HookPhase, Hooks, Quiet};
+use crate::to_end::take_turns;
+use stm_model::{Addr, Bell, Body, Cause, Cells, HookPhase, Hooks, Law, Quiet};
 use txn_drive::Ask;
 
 /// A caller as cells, which are those of the attempt that is under way. Between two attempts they refuse each call
 /// with `Memory`. What their attempts ring goes to the bell, and what handlers run is told to nobody.
 #[derive(Drop)]
 pub struct Runner<'a, L: HeapLaw, R: Bell> {
-    seat: &'a mut Seat<L>,
-    stm: &'a Stm<L>,
-    bell: &'a mut R,
+    pub seat: &'a mut Seat<L>,
+    pub stm: &'a Stm<L>,
+    pub bell: &'a mut R,
     flight: Option<Flight<L>>,
     ghost here: { placed stm.now seat.now flight ≡ flight },
     ghost going: { IsGoing flight } by { IsGoing-prop flight },
-    ghost witness: { ∥ Witness (L.heaps stm.now.law) (cells_in_stm stm.now) (state_by stm.now flight).reads ∥₁ },
+    ghost witness: { ∥ Witness (L.heaps stm.now.law) (state_by stm.now flight).size (state_by stm.now flight).reads ∥₁ },
     ghost words: { AreWords (values_of (state_by stm.now flight).now.writes) } by { AreWords-prop (values_of (state_by stm.now flight).now.writes) },
     ghost answered: { IfSome (state_by stm.now flight).cause IsOfCells } by { IsAnswer-prop (state_by stm.now flight).cause },
     ghost deep: { length (state_by stm.now flight).saved ≤ deepest },
@@ -49,8 +50,9 @@ impl<'a, L: HeapLaw, R: Bell> Runner<'a, L, R> {
     /// The caller of this seat, at rest.
     pub fn new(seat: &'a mut Seat<L>, stm: &'a Stm<L>, bell: &'a mut R) -> Runner<'a, L, R>
         requires begins { MayBegin (L.lawful stm.now.law) (L.may stm.now.law) stm.now seat.old }
-        ensures names { (result.seat.ghost_name ≡ seat.entry.ghost_name) × (result.bell.ghost_name ≡ bell.entry.ghost_name) }
-        ensures here { (result.seat.now ≡ seat.old) × (result.bell.now ≡ bell.old) × (result.stm.now ≡ stm.now) × (result.flight ≡ None) }
+        ensures same_references { (result.seat.ghost_name ≡ seat.entry.ghost_name) × (result.bell.ghost_name ≡ bell.entry.ghost_name) }
+        ensures same { (result.seat.now ≡ seat.old) × (result.bell.now ≡ bell.old) × (result.stm.now ≡ stm.now) }
+        ensures rests { ⟦<Runner<'a, L, R> as Runs<L>>⟧.rests result }
     {
         Runner {
             seat,
@@ -211,6 +213,32 @@ impl<'a, L: HeapLaw, R: Bell> Runs<L> for Runner<'a, L, R> {
     }
 }
 
+// What a closure has run before the commit.
+#[derive(Clone, Copy)]
+struct Nothing;
+
+impl<L: Law> Body<L> for Nothing {
+    type Out = ();
+
+    ghost fits = { λ body law size. Unit {0} };
+
+    ghost means = { λ body heap before answer after left. (answer ≡ Ok tt) × (after ≡ before) };
+
+    ghost leaves = { λ body heap before left. Unit {0} };
+
+    ghost late_means = { λ body token heap before answer after left. (answer ≡ Ok tt) × (after ≡ before) };
+
+    ghost late_leaves = { λ body token heap before left. Unit {0} };
+
+    fn run<C: Cells<L>>(&mut self, _cells: &mut C) -> Result<(), Cause> {
+        Ok(())
+    }
+
+    fn late<C: Cells<L>>(&mut self, _cells: &mut C, _token: u64) -> Result<(), Cause> {
+        Ok(())
+    }
+}
+
 // The value is put in this place.
 fn put<T: Drop>(place: &mut Option<T>, value: T)
     ensures { place.new ≡ Some value }
@@ -235,7 +263,8 @@ fn end_of<L: HeapLaw, R: Bell, H: Hooks, T: Drop>(
     flight.stands();
     match answer {
         Ok(out) => {
-            flight.ask(seat, stm, bell, hooks, Ask::Finish);
+            take_turns(seat, stm, bell, hooks, flight, &mut Nothing);
+            flight.stands();
             outcome_of(flight.ending(), Some(out))
         }
         Err(cause) => {

@@ -16,12 +16,7 @@ finish-requires-clause-owes g c =
 pub finish-requires-clause-answers : goal.finish-requires-clause-answers
 finish-requires-clause-answers g c =
     let runs = c.requires.runs c.begin.new.self c.call-answer.new.cells c.call-answer.result c.call-answer.new.f c.in_default.ensures.begins.0 c.call-answer.ensures in
-    runs.states.ran.causes
-
-pub finish-requires-clause-none_later : goal.finish-requires-clause-none_later
-finish-requires-clause-none_later g c =
-    let runs = c.requires.runs c.begin.new.self c.call-answer.new.cells c.call-answer.result c.call-answer.new.f c.in_default.ensures.begins.0 c.call-answer.ensures in
-    runs.states.none_later
+    runs.states.causes
 
 pub returns-clause-same : goal.returns-clause-same
 returns-clause-same g c =

@@ -1,4 +1,3 @@
-use Rattle.std.proofs.Common.{rules}
 use Rattle.txn_run.specs.Facts.{witness_map}
 use Rattle.txn_run.specs.Flights.{cells_in_stm}
 use Rattle.txn_run.proofs.Resting.{placed_here, rest_tells}

@@ -1,6 +1,5 @@
 use Rattle.std.proofs.Common.{refl, sym, arith}
 use Rattle.std.proofs.Math.Logic.{∥∥₁_map}
-use Rattle.txn_run.specs.Flights.{cells_in_stm}
 use Rattle.txn_run.proofs.Resting.{less_witness}
 use Rattle.txn_run.proofs.Underway.{begins_then, concludes_then, made_then, may_end_with}
 use Rattle.txn_run.proofs.runners.RunnerRuns.finish.Goals as goal
@@ -10,7 +9,7 @@ end_of-outcome-requires-clause-ends g c =
     let self = c.args.self.now in
     let begun = c.requires.begun in
     may_end_with (g.L.Law.lawful self.stm.now.law) (g.L.Law.may self.stm.now.law) self.stm.now begun.0.stm.now _ _ begun.0.seat.now self.seat.now _ _ self.flight c.in-Some.flight c.args.answer
-    (sym c.in-Some.ensures.value) self.going begun.1.3 c.requires.owes c.requires.answers c.requires.none_later
+    (sym c.in-Some.ensures.value) self.going begun.1.3 c.requires.owes c.requires.answers
 
 pub returns-clause-rests : goal.returns-clause-rests
 returns-clause-rests g c =
@@ -38,7 +37,7 @@ invariant_of-self g c =
     rw c.in-Some.ensures.after (record {
       here = refl;
       going = tt;
-      witness = ∥∥₁_map self.witness (less_witness (g.L.HeapLaw.heaps stm.law) (cells_in_stm stm) _);
+      witness = ∥∥₁_map self.witness (less_witness (g.L.HeapLaw.heaps stm.law) stm self.flight);
       words = λ k d below. absurd (omega (arith, below));
       answered = tt;
       deep = omega arith;
