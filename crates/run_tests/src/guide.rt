@@ -4,6 +4,7 @@ mod alternatives;
 mod arrays;
 mod before_commit;
 mod blocks;
+pub mod closures;
 mod deposits;
 mod handlers;
 mod singles;

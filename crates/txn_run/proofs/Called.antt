@@ -9,7 +9,7 @@ use Rattle.stm_model.specs.declared.cause.Cause.{Cause}
 use Rattle.ref_table.specs.Seats.{StmState}
 use Rattle.txn_run.specs.Callers.{CallerState}
 use Rattle.txn_run.specs.Outcomes.{Concludes, ConcludesAs, Made}
-use Rattle.txn_run.specs.Runners.{HasRun, StandsOn, WasCalled, fresh_cells}
+use Rattle.txn_run.specs.Runners.{HasRun, StandsOn, WasCalled}
 use Rattle.txn_run.specs.declared.callers.Outcome.{Outcome}
 use Rattle.txn_run.specs.declared.callers.Outcome.TheVariants as with
 
@@ -69,14 +69,13 @@ module _ {D T L : Type 0} (law : D → L) (follows : D → D → Type 0) (state 
 
 -- It was called on the cells of an attempt that had just begun.
 module _ {D T L : Type 0} (law : D → L) (state : D → CellsState) (lawful : L → List ℕ → Type 0) (begins : D → Type 0) (called : D → Result T Cause → D → Type 0)
-    (start end : D) (answer : Result T Cause) (home : L) (begun : begins start) (fresh : state start ≡ fresh_cells (state start).size) (call : called start answer end) (same : law end ≡ home) where
+    (start end : D) (answer : Result T Cause) (home : L) (begun : begins start) (call : called start answer end) (same : law end ≡ home) where
   pub has_run : (given : Result T Cause) (heap : List ℕ) (book : Book) → (answer ≡ given) × StandsOn (lawful (law end)) (state end) heap book
       → HasRun begins called state (lawful home) given heap book
   has_run given heap book so = record {
     start = start;
     end = end;
     begun = begun;
-    fresh = fresh;
     call = subst (λ (a : Result T Cause). called start a end) so.0 call;
     stands = subst (λ (l : L). StandsOn (lawful l) (state end) heap book) same so.1;
   }
@@ -87,7 +86,6 @@ module _ {D T L : Type 0} (law : D → L) (state : D → CellsState) (lawful : L
     start = start;
     end = end;
     begun = begun;
-    fresh = fresh;
     call = call;
     possible = subst (λ (l : L). IsPossible (lawful l) (state end).size (state end).reads heap) same possible;
   }

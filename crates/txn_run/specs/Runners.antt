@@ -73,24 +73,28 @@ pub record StandsOn (lawful : List ℕ → Type 0) (cells : CellsState) (heap : 
 abbrev pub fresh_cells : ℕ → CellsState
 fresh_cells size = record { size = size; reads = []; now = empty_book; saved = []; cause = None }
 
--- A closure was called on cells of an attempt that had just begun and gave this answer, with this book, on a heap that is possible by what it read.
+-- These are the cells of an attempt that has just begun at this caller, on a table with this law and so many cells.
+pub record JustBegun {D L : Type 0} (begins : D → Type 0) (law : D → L) (state : D → CellsState) (home : L) (size : ℕ) (start : D) : Type 0 where
+  pub begun : begins start
+  pub same_law : law start ≡ home
+  pub fresh : state start ≡ fresh_cells size
+
+-- A closure was called on such cells and gave this answer, with this book, on a heap that is possible by what it read.
 pub record HasRun {D T : Type 0} (begins : D → Type 0) (called : D → Result T Cause → D → Type 0) (state : D → CellsState) (lawful : List ℕ → Type 0)
     (answer : Result T Cause) (heap : List ℕ) (book : Book) : Type 0 where
   pub start : D
   pub end : D
   pub begun : begins start
-  pub fresh : state start ≡ fresh_cells (state start).size
   pub call : called start answer end
   pub stands : StandsOn lawful (state end) heap book
 
--- A closure was called so, with whatever answer.
+-- A closure was called on such cells, with whatever answer.
 pub record WasCalled {D T : Type 0} (begins : D → Type 0) (called : D → Result T Cause → D → Type 0) (state : D → CellsState) (lawful : List ℕ → Type 0)
     (heap : List ℕ) : Type 0 where
   pub answer : Result T Cause
   pub start : D
   pub end : D
   pub begun : begins start
-  pub fresh : state start ≡ fresh_cells (state start).size
   pub call : called start answer end
   pub possible : IsPossible lawful (state end).size (state end).reads heap
 

@@ -8,8 +8,9 @@ ghost use Rattle.stm_model.specs.Refusing.{IsOfBody};
 ghost use Rattle.stm_model.specs.Telling.{Owing};
 ghost use Rattle.stm_model.specs.declared.cause.Cause.{Cause};
 ghost use Rattle.txn_run.specs.Callers.{CallerState};
+ghost use Rattle.txn_run.specs.Flights.{cells_in_stm};
 ghost use Rattle.txn_run.specs.Outcomes.{Concludes, ConcludesAs, IsSpent, Made};
-ghost use Rattle.txn_run.specs.Runners.{HasRun, StandsOn, WasCalled, fresh_cells};
+ghost use Rattle.txn_run.specs.Runners.{HasRun, JustBegun, StandsOn, WasCalled, fresh_cells};
 
 use crate::callers::Outcome;
 use stm_model::{Cause, Cells, Law};
@@ -33,7 +34,7 @@ pub trait Runs<L: Law>: Cells<L> {
     /// Begins an attempt, or answers how all end when as many were made as there may be.
     fn begin<T: Drop>(&mut self) -> Option<Outcome<T>>
         requires rests { rests self.old }
-        ensures begins { MatchOption result (begun self.old self.new × (Self.state self.new ≡ fresh_cells (Self.state self.new).size))
+        ensures begins { MatchOption result (begun self.old self.new × (Self.state self.new ≡ fresh_cells (cells_in_stm (stm self.old))))
             (λ outcome. rests self.new × same self.old self.new × IsSpent (stm self.old).settings.attempts (Unit {0}) (caller self.old) (caller self.new) outcome) };
 
     /// Ends the attempt: commits it, or rolls it back.
@@ -63,14 +64,19 @@ pub fn attempt_with<L: Law, D: Runs<L>, T: Drop, F: FnMut(&mut D) -> Result<T, C
     f: &mut F,
 ) -> Outcome<T>
     requires rests { D.rests runner.old }
-    requires callable { (start : _) → D.begun runner.old start.now → D.state start.now ≡ fresh_cells (D.state start.now).size → F.pre f.old start }
-    requires runs { (start end : D) (answer : Result T Cause) (left : F) → D.begun runner.old start → CalledAtMut F.FnMut f.old start answer left end
+    requires callable { (start : _) → JustBegun (D.begun runner.old) D.law D.state (D.stm runner.old).law (cells_in_stm (D.stm runner.old)) start.now → F.pre f.old start }
+    requires runs { (start end : D) (answer : Result T Cause) (left : F) → JustBegun (D.begun runner.old) D.law D.state (D.stm runner.old).law (cells_in_stm (D.stm runner.old)) start
+        → CalledAtMut F.FnMut f.old start answer left end
         → Running L.lawful L.may D.law D.follows D.state start end (λ heap before answer after. Unit {0}) (λ heap before. Unit {0}) answer }
     ensures rests { D.rests runner.new }
     ensures same { D.same runner.old runner.new }
-    ensures concludes { Concludes (λ out heap book. HasRun (D.begun runner.old) (λ start answer end. CalledAtMut F.FnMut f.old start answer f.new end) D.state (L.lawful (D.stm runner.old).law) (Ok out) heap book)
-        (λ cause heap book. HasRun {T = T} (D.begun runner.old) (λ start answer end. CalledAtMut F.FnMut f.old start answer f.new end) D.state (L.lawful (D.stm runner.old).law) (Err cause) heap book)
-        (λ heap. WasCalled (D.begun runner.old) (λ start answer end. CalledAtMut F.FnMut f.old start answer f.new end) D.state (L.lawful (D.stm runner.old).law) heap)
+    ensures concludes { Concludes
+        (λ out heap book. HasRun (JustBegun (D.begun runner.old) D.law D.state (D.stm runner.old).law (cells_in_stm (D.stm runner.old))) (λ start answer end. CalledAtMut F.FnMut f.old start answer f.new end)
+          D.state (L.lawful (D.stm runner.old).law) (Ok out) heap book)
+        (λ cause heap book. HasRun {T = T} (JustBegun (D.begun runner.old) D.law D.state (D.stm runner.old).law (cells_in_stm (D.stm runner.old))) (λ start answer end. CalledAtMut F.FnMut f.old start answer f.new end)
+          D.state (L.lawful (D.stm runner.old).law) (Err cause) heap book)
+        (λ heap. WasCalled (JustBegun (D.begun runner.old) D.law D.state (D.stm runner.old).law (cells_in_stm (D.stm runner.old))) (λ start answer end. CalledAtMut F.FnMut f.old start answer f.new end)
+          D.state (L.lawful (D.stm runner.old).law) heap)
         (f.new ≡ f.old) (D.stm runner.old) (D.caller runner.old) (D.caller runner.new) result }
 {
     if let Some(outcome) = runner.begin() {

@@ -20,7 +20,7 @@ ghost use Rattle.txn_run.specs.Runners.{BegunBy, EndedSo, IsGoing, MayEndWith, W
 ghost use Rattle.txn_run.specs.Turns.{EndsAs};
 
 use crate::attempts::{is_spent, spent};
-use crate::callers::Outcome;
+use crate::callers::{Caller, Outcome};
 use crate::cells::HeapLaw;
 use crate::closures::Runs;
 use crate::flights::Flight;
@@ -60,6 +60,23 @@ impl<'a, L: HeapLaw, R: Bell> Runner<'a, L, R> {
             bell,
             flight: None,
         }
+    }
+
+    /// The caller, once no attempt is under way.
+    pub fn into_caller(self) -> Caller<'a, L, R>
+        requires rests { ⟦<Runner<'a, L, R> as Runs<L>>⟧.rests self }
+        ensures same_references { (result.seat.ghost_name ≡ self.entry.seat.ghost_name) × (result.bell.ghost_name ≡ self.entry.bell.ghost_name) }
+        ensures same { (result.seat.now ≡ self.entry.seat.now) × (result.bell.now ≡ self.entry.bell.now) × (result.stm.now ≡ self.entry.stm.now) }
+        ensures begins { MayBegin (L.lawful self.entry.stm.now.law) (L.may self.entry.stm.now.law) self.entry.stm.now self.entry.seat.now }
+    {
+        let Runner {
+            seat,
+            stm,
+            bell,
+            flight,
+        } = self;
+        drop(flight);
+        Caller { seat, stm, bell }
     }
 
     // It is asked for something, and tells what it was answered by.
