@@ -1,19 +1,19 @@
 -- From the answer of a closure to the end of its attempt.
-use Rattle.std.proofs.Common.{◌≡◌, ◌≢◌, ℕ, ◌⊎◌, drop, List, [], ◌∷◌, Some, None, Option, Result, Ok, Err, refl, sym, ap, subst, ◌∙◌, ⊎_elim, inl, inr}
-use Rattle.std.specs.Prelude.{IfErr, IfOk, IfSome}
+use Rattle.std.proofs.Common.{◌≡◌, ℕ, ◌⊎◌, List, [], ◌∷◌, Some, None, Result, Ok, Err, refl, sym, ap, subst, ◌∙◌, ⊎_elim}
+use Rattle.std.specs.Prelude.{IfErr, IfOk}
 use Rattle.meta_word.specs.declared.status.Phase.TheVariants.{Active}
-use Rattle.ref_table.specs.Seats.{SeatState, StmState, terms_in}
+use Rattle.ref_table.specs.Seats.{SeatState}
 use Rattle.stm_model.specs.Attempt.{Attempt, cause_at, cells_of}
 use Rattle.stm_model.specs.CellsState.{Book}
 use Rattle.stm_model.specs.Moves.{AwaitsAsk}
 use Rattle.stm_model.specs.Owes.{IsPossible}
-use Rattle.stm_model.specs.Refusing.{IsOfBody, IsOfCells}
+use Rattle.stm_model.specs.Refusing.{IsOfBody}
 use Rattle.stm_model.specs.Telling.{Owing}
 use Rattle.stm_model.specs.World.{Terms, cells_in}
 use Rattle.stm_model.specs.declared.access.Ask.TheVariants.{Abandon}
 use Rattle.stm_model.specs.declared.cause.Cause.{Cause}
 use Rattle.txn_drive.specs.Going.{IsAsked}
-use Rattle.txn_drive.specs.Standing.{IsOver, Rests}
+use Rattle.txn_drive.specs.Standing.{Rests}
 use Rattle.txn_run.specs.Flights.{MayBeAsked, Stands}
 use Rattle.txn_run.specs.Outcomes.{IsWord}
 use Rattle.txn_run.specs.Runners.{MayEndWith, StandsOn}
@@ -56,10 +56,10 @@ module _ {T : Type 0} (lawful : List ℕ → Type 0) (may : List ℕ → List �
     -- What was registered to run before the commit did nothing.
     pub comes_well : {B : Type 0} (late_leaves : B → ℕ → List ℕ → Book → B → Type 0) (body left : B)
         → ComesToEnd lawful (cells_in terms) (λ heap book. IsSince (cause_at t.stage ≡ None) lawful (cells_in terms) t.notes heap × RunLate (does_nothing {B = B}) heap book.laters body t.now book left)
-          (λ cause heap book. IsSince (cause_at t.stage ≡ None) lawful (cells_in terms) t.notes heap × GaveLate (does_nothing {B = B}) heap cause body t.now book left)
-          (λ heap. IsPossible lawful (cells_in terms) t.notes heap × LeftLate (cause_at t.stage ≡ None) (does_nothing {B = B}) late_leaves heap body t.now left) u
+        (λ cause heap book. IsSince (cause_at t.stage ≡ None) lawful (cells_in terms) t.notes heap × GaveLate (does_nothing {B = B}) heap cause body t.now book left)
+        (λ heap. IsPossible lawful (cells_in terms) t.notes heap × LeftLate (cause_at t.stage ≡ None) (does_nothing {B = B}) late_leaves heap body t.now left) u
         → ComesToEnd lawful (cells_in terms) (λ heap book. (answer ≡ Ok out) × StandsOn lawful (cells_of (cells_in terms) t) heap book)
-          (λ cause heap book. (answer ≡ Err cause) × StandsOn lawful (cells_of (cells_in terms) t) heap book) (λ heap. IsPossible lawful (cells_in terms) t.notes heap) u
+        (λ cause heap book. (answer ≡ Err cause) × StandsOn lawful (cells_of (cells_in terms) t) heap book) (λ heap. IsPossible lawful (cells_in terms) t.notes heap) u
     comes_well {B} late_leaves body left comes = comes_map lawful (cells_in terms) _ _ _ _ _ _ u
         (λ heap book ran. (is, record { going = ran.0.going; possible = ran.0.possible; has = sym (nothing_done heap book.laters body left t.now book ran.1) }))
         (λ cause heap book gave. absurd (cc gave.1.gave.0)) (λ heap left. left.0) comes

@@ -1,6 +1,6 @@
 -- What an attempt of a closure concludes with.
-use Rattle.std.proofs.Common.{◌≡◌, ℕ, ◌⊎◌, List, [], Some, None, Result, Ok, Err, sym, subst, inl}
-use Rattle.std.specs.Prelude.{IfErr, IfOk}
+use Rattle.std.proofs.Common.{◌≡◌, ℕ, List, None, Result, Ok, Err, sym, subst, inl}
+use Rattle.std.specs.Prelude.{IfOk}
 use Rattle.stm_model.specs.CellsState.{Book, CellsState}
 use Rattle.stm_model.specs.Owes.{IsPossible, Owes}
 use Rattle.stm_model.specs.Ran.{Running}
@@ -92,8 +92,11 @@ module _ {D T L : Type 0} (law : D → L) (state : D → CellsState) (lawful : L
 
   pub concluded : {S : Type 0} (stm : StmState S) (before after : CallerState) (untouched : Type 0) (outcome : Outcome T) → Made stm.settings.attempts before after
       → ConcludesAs (λ out heap book. (answer ≡ Ok out) × StandsOn (lawful (law end)) (state end) heap book) (λ cause heap book. (answer ≡ Err cause) × StandsOn (lawful (law end)) (state end) heap book)
-        (λ heap. IsPossible (lawful (law end)) (state end).size (state end).reads heap) stm.opening before after outcome
+      (λ heap. IsPossible (lawful (law end)) (state end).size (state end).reads heap) stm.opening before after outcome
       → Concludes (λ out heap book. HasRun begins called state (lawful home) (Ok out) heap book) (λ cause heap book. HasRun begins called state (lawful home) (Err cause) heap book)
-        (λ heap. WasCalled begins called state (lawful home) heap) untouched stm before after outcome
-  concluded stm before after untouched outcome made so = inl (made, concludes_map _ _ _ _ _ _ stm.opening before after
-      (λ out heap book. has_run (Ok out) heap book) (λ cause heap book. has_run (Err cause) heap book) was_called outcome so)
+      (λ heap. WasCalled begins called state (lawful home) heap) untouched stm before after outcome
+  concluded stm before after untouched outcome made so = inl (
+    made,
+    concludes_map _ _ _ _ _ _ stm.opening before after
+        (λ out heap book. has_run (Ok out) heap book) (λ cause heap book. has_run (Err cause) heap book) was_called outcome so,
+  )

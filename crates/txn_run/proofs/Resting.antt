@@ -1,5 +1,5 @@
 -- Cells of a caller between two attempts, and those of the attempt under way.
-use Rattle.std.proofs.Common.{◌≡◌, ◌≢◌, ◌∙◌, ◌<◌, ℕ, List, [], length, Some, None, Option, Ok, Err, refl, sym, ap, arith}
+use Rattle.std.proofs.Common.{◌≡◌, ◌≢◌, ◌∙◌, ℕ, List, [], Some, None, Option, Err, refl, sym, ap, arith}
 use Rattle.std.proofs.lemmas.List.Elements.{All-nil}
 use Rattle.ref_table.specs.Seats.{SeatState, StmState, terms_in}
 use Rattle.stm_model.specs.Refusing.{RefusesLevel, RefusesRead, RefusesRegistration, RefusesWrite}

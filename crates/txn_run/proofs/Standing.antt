@@ -2,9 +2,6 @@
 use Rattle.std.proofs.Common.{◌≡◌, ◌≢◌, ℕ, ◌≤◌, List, length, Option, None, Result, sym, ap, subst, ◌∙◌, ⊎_elim, inl, arith}
 use Rattle.std.specs.Prelude.{IfSome}
 use Rattle.ref_table.specs.Seats.{SeatState, StmState, terms_in}
-use Rattle.std.specs.Map.{values_of}
-use Rattle.stm_model.specs.Heap.{AreWords}
-use Rattle.stm_model.specs.Telling.{Witness}
 use Rattle.stm_model.specs.declared.cause.Cause.{Cause}
 use Rattle.stm_model.specs.Attempt.{Attempt, Ended, Late, Ready, Stage, Stopped, cause_at}
 use Rattle.stm_model.specs.Moves.{AwaitsAsk, AwaitsAskAt, MayAsk}

@@ -1,5 +1,5 @@
 -- The attempt of a closure from where its caller stood before it began to where it stands after its end.
-use Rattle.std.proofs.Common.{◌≡◌, ◌≢◌, ℕ, ◌⊎◌, List, [], Option, Some, None, Result, Ok, Err, sym, ap, subst, ◌∙◌}
+use Rattle.std.proofs.Common.{◌≡◌, ℕ, ◌⊎◌, List, Option, Some, None, Result, Ok, Err, sym, ap, subst}
 use Rattle.std.specs.Prelude.{IfErr, IfOk}
 use Rattle.ref_table.specs.Calls.{AreEmpty}
 use Rattle.ref_table.specs.Seats.{SeatState, StmState}
@@ -74,5 +74,5 @@ module _ {S T : Type 0} (lawful : S → List ℕ → Type 0) (may : S → List �
   concludes_then = subst (λ (s : StmState S). ConcludesAs Ends Gives Leaves s.opening (caller_of before None rings) (caller_of given None rings_last) outcome) same_stm
       (subst (λ c. ConcludesAs Ends Gives Leaves stm.opening (caller_of before None rings) c outcome) given_caller
       (subst (λ f. ConcludesAs (λ out heap book. (answer ≡ Ok out) × StandsOn (lawful stm.law) (state_by stm f) heap book)
-        (λ cause heap book. (answer ≡ Err cause) × StandsOn (lawful stm.law) (state_by stm f) heap book)
-        (λ heap. IsPossible (lawful stm.law) (state_by stm f).size (state_by stm f).reads heap) stm.opening (caller_of before None rings) (caller_of last None rings_last) outcome) (sym is) concludes_here))
+      (λ cause heap book. (answer ≡ Err cause) × StandsOn (lawful stm.law) (state_by stm f) heap book)
+      (λ heap. IsPossible (lawful stm.law) (state_by stm f).size (state_by stm f).reads heap) stm.opening (caller_of before None rings) (caller_of last None rings_last) outcome) (sym is) concludes_here))

@@ -1,11 +1,8 @@
 -- Callers that run closures: what their cells tell between two attempts and in one, and what a closure has to do.
-use Rattle.std.specs.Prelude.{◌≡◌, ◌≢◌, ℕ, ◌<◌, ◌≤◌, List, [], length, IfSome, None, Option, Some, Result, Ok, Err, IfErr, IfOk, ◌⊎◌}
-use Rattle.std.specs.Map.{values_of}
-use Rattle.ref_table.specs.Calls.{AreEmpty}
+use Rattle.std.specs.Prelude.{◌≡◌, ◌≢◌, ℕ, ◌<◌, List, [], IfSome, None, Option, Some, Result, Ok, Err, IfErr, IfOk, ◌⊎◌}
 use Rattle.ref_table.specs.Seats.{SeatState, StmState, terms_in}
 use Rattle.stm_model.specs.Attempt.{Attempt, Ended, cause_at, cells_of}
 use Rattle.stm_model.specs.CellsState.{Book, CellsState, empty_book}
-use Rattle.stm_model.specs.Heap.{AreWords}
 use Rattle.stm_model.specs.Owes.{IsPossible}
 use Rattle.stm_model.specs.Refusing.{IsOfBody}
 use Rattle.stm_model.specs.Telling.{Owing}
@@ -17,8 +14,8 @@ use Rattle.txn_drive.specs.Moment.{Moment, moment}
 use Rattle.txn_drive.specs.Standing.{IsOn, IsOver}
 use Rattle.txn_run.specs.Turns.{EndsAs}
 use Rattle.txn_run.specs.declared.callers.Outcome.{Outcome}
-use Rattle.txn_run.specs.Callers.{CallerState, MayBegin, attempt_in, caller_of}
-use Rattle.txn_run.specs.Flights.{FlightState, IsHere, Went, cells_in_stm, state_on}
+use Rattle.txn_run.specs.Callers.{MayBegin, attempt_in}
+use Rattle.txn_run.specs.Flights.{FlightState, Went, cells_in_stm, state_on}
 
 -- between two attempts: nothing is read or written, and each call is refused
 abbrev pub resting : ℕ → CellsState

@@ -72,11 +72,11 @@ pub fn attempt_with<L: Law, D: Runs<L>, T: Drop, F: FnMut(&mut D) -> Result<T, C
     ensures same { D.same runner.old runner.new }
     ensures concludes { Concludes
         (λ out heap book. HasRun (JustBegun (D.begun runner.old) D.law D.state (D.stm runner.old).law (cells_in_stm (D.stm runner.old))) (λ start answer end. CalledAtMut F.FnMut f.old start answer f.new end)
-          D.state (L.lawful (D.stm runner.old).law) (Ok out) heap book)
+        D.state (L.lawful (D.stm runner.old).law) (Ok out) heap book)
         (λ cause heap book. HasRun {T = T} (JustBegun (D.begun runner.old) D.law D.state (D.stm runner.old).law (cells_in_stm (D.stm runner.old))) (λ start answer end. CalledAtMut F.FnMut f.old start answer f.new end)
-          D.state (L.lawful (D.stm runner.old).law) (Err cause) heap book)
+        D.state (L.lawful (D.stm runner.old).law) (Err cause) heap book)
         (λ heap. WasCalled (JustBegun (D.begun runner.old) D.law D.state (D.stm runner.old).law (cells_in_stm (D.stm runner.old))) (λ start answer end. CalledAtMut F.FnMut f.old start answer f.new end)
-          D.state (L.lawful (D.stm runner.old).law) heap)
+        D.state (L.lawful (D.stm runner.old).law) heap)
         (f.new ≡ f.old) (D.stm runner.old) (D.caller runner.old) (D.caller runner.new) result }
 {
     if let Some(outcome) = runner.begin() {

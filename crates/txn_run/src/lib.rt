@@ -4,8 +4,8 @@
 mod attempts;
 mod bodies;
 mod callers;
-mod closures;
 mod cells;
+mod closures;
 mod flights;
 mod making;
 mod runners;
@@ -13,9 +13,9 @@ mod to_end;
 
 pub use attempts::{attempt, attempt_noting};
 pub use callers::{Caller, Outcome};
-pub use closures::{Runs, attempt_with};
-pub use runners::Runner;
 pub use cells::Txn;
+pub use closures::{Runs, attempt_with};
 pub use read_set::ReadSet;
 pub use ref_table::{Maker, Mark, Seat, Stm};
+pub use runners::Runner;
 pub use stm_model::{Bell, Body, Cause, Cells, Hooks, Quiet};

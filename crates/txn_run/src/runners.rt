@@ -25,8 +25,8 @@ use crate::cells::HeapLaw;
 use crate::closures::Runs;
 use crate::flights::Flight;
 use crate::making::{lists_of, outcome_of};
-use ref_table::{Seat, Stm};
 use crate::to_end::take_turns;
+use ref_table::{Seat, Stm};
 use stm_model::{Addr, Bell, Body, Cause, Cells, HookPhase, Hooks, Law, Quiet};
 use txn_drive::Ask;
 
@@ -204,8 +204,12 @@ impl<'a, L: HeapLaw, R: Bell> Runs<L> for Runner<'a, L, R> {
     ghost same = { λ before after. (after.seat.ghost_name ≡ before.seat.ghost_name) × (after.bell.ghost_name ≡ before.bell.ghost_name)
         × IsSameCaller before.stm.now after.stm.now before.seat.now after.seat.now };
 
-    ghost begun_on = { λ first second third begun goes. (goes.0 ∙ begun.0, goes.1 ∙ begun.1, goes.2 ∙ begun.2,
-        begun_later _ _ _ _ _ second.flight third.flight _ _ _ _ begun.3 goes.3) };
+    ghost begun_on = { λ first second third begun goes. (
+      goes.0 ∙ begun.0,
+      goes.1 ∙ begun.1,
+      goes.2 ∙ begun.2,
+      begun_later _ _ _ _ _ second.flight third.flight _ _ _ _ begun.3 goes.3,
+    ) };
 
     ghost same_table = { λ first second begun. ap (λ stm. stm.law) begun.2 };
 
@@ -224,7 +228,14 @@ impl<'a, L: HeapLaw, R: Bell> Runs<L> for Runner<'a, L, R> {
             unreachable!()
         };
         let mut flight = flight;
-        let outcome = end_of(self.seat, self.stm, self.bell, &mut Quiet, &mut flight, answer);
+        let outcome = end_of(
+            self.seat,
+            self.stm,
+            self.bell,
+            &mut Quiet,
+            &mut flight,
+            answer,
+        );
         self.seat.give_back(lists_of(flight.into_running()));
         outcome
     }

@@ -9,14 +9,14 @@ call-answer-requires g c start is =
     let runner = c.args.runner.now in
     let begun = c.in_default.ensures.begins in
     c.requires.callable start (subst (JustBegun (g.D.Runs.begun runner) g.D.Cells.law g.D.Cells.state (g.D.Runs.stm runner).law (cells_in_stm (g.D.Runs.stm runner))) (sym is)
-      (record { begun = begun.0; same_law = g.met.D.Runs.same_table runner c.begin.new.self begun.0; fresh = begun.1 }))
+    (record { begun = begun.0; same_law = g.met.D.Runs.same_table runner c.begin.new.self begun.0; fresh = begun.1 }))
 
 pub finish-requires-clause-begun : goal.finish-requires-clause-begun
 finish-requires-clause-begun g c =
     let start = c.begin.new.self in
     let begun = c.in_default.ensures.begins in
     let runs = c.requires.runs start c.call-answer.new.cells c.call-answer.result c.call-answer.new.f
-        (record { begun = begun.0; same_law = g.met.D.Runs.same_table c.args.runner.now start begun.0; fresh = begun.1 }) c.call-answer.ensures in
+    (record { begun = begun.0; same_law = g.met.D.Runs.same_table c.args.runner.now start begun.0; fresh = begun.1 }) c.call-answer.ensures in
     (c.args.runner.now, g.met.D.Runs.begun_on c.args.runner.now start c.call-answer.new.cells begun.0 runs.goes)
 
 pub finish-requires-clause-owes : goal.finish-requires-clause-owes
@@ -24,7 +24,7 @@ finish-requires-clause-owes g c =
     let start = c.begin.new.self in
     let begun = c.in_default.ensures.begins in
     let runs = c.requires.runs start c.call-answer.new.cells c.call-answer.result c.call-answer.new.f
-        (record { begun = begun.0; same_law = g.met.D.Runs.same_table c.args.runner.now start begun.0; fresh = begun.1 }) c.call-answer.ensures in
+    (record { begun = begun.0; same_law = g.met.D.Runs.same_table c.args.runner.now start begun.0; fresh = begun.1 }) c.call-answer.ensures in
     owes_then g.D.Cells.law g.D.Cells.follows g.D.Cells.state g.L.Law.lawful g.L.Law.may start c.call-answer.new.cells c.call-answer.result runs
 
 pub finish-requires-clause-answers : goal.finish-requires-clause-answers
@@ -32,7 +32,7 @@ finish-requires-clause-answers g c =
     let start = c.begin.new.self in
     let begun = c.in_default.ensures.begins in
     let runs = c.requires.runs start c.call-answer.new.cells c.call-answer.result c.call-answer.new.f
-        (record { begun = begun.0; same_law = g.met.D.Runs.same_table c.args.runner.now start begun.0; fresh = begun.1 }) c.call-answer.ensures in
+    (record { begun = begun.0; same_law = g.met.D.Runs.same_table c.args.runner.now start begun.0; fresh = begun.1 }) c.call-answer.ensures in
     runs.states.causes
 
 pub returns-clause-same : goal.returns-clause-same
@@ -40,7 +40,7 @@ returns-clause-same g c =
     let start = c.begin.new.self in
     let begun = c.in_default.ensures.begins in
     let runs = c.requires.runs start c.call-answer.new.cells c.call-answer.result c.call-answer.new.f
-        (record { begun = begun.0; same_law = g.met.D.Runs.same_table c.args.runner.now start begun.0; fresh = begun.1 }) c.call-answer.ensures in
+    (record { begun = begun.0; same_law = g.met.D.Runs.same_table c.args.runner.now start begun.0; fresh = begun.1 }) c.call-answer.ensures in
     c.finish.ensures.same c.args.runner.now (g.met.D.Runs.begun_on c.args.runner.now start c.call-answer.new.cells begun.0 runs.goes)
 
 pub returns-clause-concludes : goal.returns-clause-concludes

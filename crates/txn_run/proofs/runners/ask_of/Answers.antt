@@ -18,7 +18,7 @@ returns-clause-knows g c =
     let stm = c.args.stm.now in
     knows_here (g.L.Law.lawful stm.law) (g.L.Law.may stm.law) (terms_in stm) c.ask.new.seat c.ask.new.self.attempt
     (asked_going (g.L.Law.lawful stm.law) (g.L.Law.may stm.law) stm c.args.flight.now.attempt c.stands.ensures.rests c.requires.going c.args.ask c.requires.body c.requires.able
-      c.ask.new.self.attempt c.ask.ensures.asked c.ask.ensures.stands.rests) c.ask.ensures.stands
+    c.ask.new.self.attempt c.ask.ensures.asked c.ask.ensures.stands.rests) c.ask.ensures.stands
 
 pub returns-clause-went : goal.returns-clause-went
 returns-clause-went g c =

@@ -22,7 +22,7 @@ ending-requires-in-Err g c =
     let stm = c.args.stm.now in
     let stands = stands_here g.L.Law.lawful g.L.Law.may stm c.args.seat.now c.args.flight.now c.requires.here c.stands.ensures in
     (ends_so (g.L.Law.lawful stm.law) (g.L.Law.may stm.law) (terms_in stm) c.args.seat.now c.args.flight.now.attempt c.ask.new.self.attempt c.args.answer stands c.requires.ends c.in-Err.cause c.in-Err.is
-      c.ask.ensures.asked c.ask.ensures.stands.rests).over
+    c.ask.ensures.asked c.ask.ensures.stands.rests).over
 
 pub outcome_of-requires-in-Err : goal.outcome_of-requires-in-Err
 outcome_of-requires-in-Err g c =
@@ -30,7 +30,7 @@ outcome_of-requires-in-Err g c =
     let stands = stands_here g.L.Law.lawful g.L.Law.may stm c.args.seat.now c.args.flight.now c.requires.here c.stands.ensures in
     rolled_may_end _ c.in-Err.cause c.args.flight.now.attempt c.ask.new.self.attempt c.ending-in-Err.result
     (ends_so (g.L.Law.lawful stm.law) (g.L.Law.may stm.law) (terms_in stm) c.args.seat.now c.args.flight.now.attempt c.ask.new.self.attempt c.args.answer stands c.requires.ends c.in-Err.cause c.in-Err.is
-      c.ask.ensures.asked c.ask.ensures.stands.rests) c.ending-in-Err.ensures
+    c.ask.ensures.asked c.ask.ensures.stands.rests) c.ending-in-Err.ensures
 
 pub returns-in-Ok : goal.returns-in-Ok
 returns-in-Ok g c =

@@ -31,15 +31,23 @@ returns g c =
     let t = c.begin-flight.result.attempt in
     let begun = c.begin-flight.ensures.begun in
     rw c.put.ensures (record {
-      begins = ((refl, refl, refl, record {
-          lent = c.lend-lists.new.self;
-          same = c.lend-lists.ensures.same;
-          able = begins_with lawful may stm c.args.self.now.seat.now c.lend-lists.new.self c.lend-lists.ensures.same c.lend-lists.ensures.empty c.requires.rests.1;
-          more = search rules;
-          start = c.begin-flight.new.seat;
-          first = t;
-          begun = begun;
-          continues = continues_self _;
-          turn = (fresh_begun lawful may (terms_in stm) stm.settings c.lend-lists.new.self c.begin-flight.new.seat t begun).turn;
-        }), begun_fresh lawful may (terms_in stm) stm.settings c.lend-lists.new.self c.begin-flight.new.seat t begun (cells_in_stm stm));
+      begins = (
+        (
+          refl,
+          refl,
+          refl,
+          record {
+            lent = c.lend-lists.new.self;
+            same = c.lend-lists.ensures.same;
+            able = begins_with lawful may stm c.args.self.now.seat.now c.lend-lists.new.self c.lend-lists.ensures.same c.lend-lists.ensures.empty c.requires.rests.1;
+            more = search rules;
+            start = c.begin-flight.new.seat;
+            first = t;
+            begun = begun;
+            continues = continues_self _;
+            turn = (fresh_begun lawful may (terms_in stm) stm.settings c.lend-lists.new.self c.begin-flight.new.seat t begun).turn;
+          },
+        ),
+        begun_fresh lawful may (terms_in stm) stm.settings c.lend-lists.new.self c.begin-flight.new.seat t begun (cells_in_stm stm),
+      );
     })

@@ -14,9 +14,11 @@ end_of-outcome-requires-clause-ends g c =
 pub returns-clause-rests : goal.returns-clause-rests
 returns-clause-rests g c =
     let self = c.args.self.now in
-    let begun = c.requires.begun in
-    (c.in-Some.ensures.after, begins_then g.L.Law.lawful g.L.Law.may self.stm.now begun.0.stm.now begun.1.2 begun.0.seat.now self.seat.now c.end_of-outcome.new.seat c.give_back.new.self _ _ _ self.flight c.in-Some.flight
-      (sym c.in-Some.ensures.value) c.end_of-outcome.new.flight.attempt begun.1.3 c.args.answer c.end_of-outcome.result c.end_of-outcome.ensures.ended c.give_back.ensures.same c.give_back.ensures.room.empty)
+    let begun = c.requires.begun in (
+      c.in-Some.ensures.after,
+      begins_then g.L.Law.lawful g.L.Law.may self.stm.now begun.0.stm.now begun.1.2 begun.0.seat.now self.seat.now c.end_of-outcome.new.seat c.give_back.new.self _ _ _ self.flight c.in-Some.flight
+          (sym c.in-Some.ensures.value) c.end_of-outcome.new.flight.attempt begun.1.3 c.args.answer c.end_of-outcome.result c.end_of-outcome.ensures.ended c.give_back.ensures.same c.give_back.ensures.room.empty,
+    )
 
 pub returns-clause-made : goal.returns-clause-made
 returns-clause-made g c first begun =
