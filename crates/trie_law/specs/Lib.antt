@@ -1,0 +1,10 @@
+pub mod Blocks
+pub mod Nibbles
+pub mod Tries
+pub mod Law
+pub mod LawFacts
+pub mod Opening
+pub mod Growing
+pub mod Holding
+pub mod LeafPairs
+pub mod Setting
