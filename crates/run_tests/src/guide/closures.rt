@@ -33,8 +33,9 @@ fn move_once<'a>(runner: &mut Runner<'a, Free, Quiet>) -> Outcome<(u64, u64)>
     ensures same { ⟦<Runner<'a, Free, Quiet> as Runs<Free>>⟧.same runner.old runner.new }
 {
     let (from, to) = (Ref::new(ZERO), Ref::new(ONE));
-    let mut moves =
-        |cells: &mut Runner<'_, Free, Quiet>| -> Result<(u64, u64), Cause> { move_one(cells, from, to) };
+    let mut moves = |cells: &mut Runner<'_, Free, Quiet>| -> Result<(u64, u64), Cause> {
+        move_one(cells, from, to)
+    };
     attempt_with::<Free, Runner<'a, Free, Quiet>, (u64, u64), _>(runner, &mut moves)
 }
 
